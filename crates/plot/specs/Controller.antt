@@ -1,0 +1,58 @@
+-- For the C controller: report, plan and move over a record in the caller's bytes, answering one number.
+use Prim.Native.Nat.{ℕ}
+use mathlib.Core.List.{List}
+use lib.ListN.{replicate}
+use Rattle.plot.specs.Numbers.{outcomeVerdict, stepVerdict, refusal, changedAnswer, planAnswer, moveAnswer}
+use Rattle.plot.specs.Plot.{maxCells}
+use Rattle.plot.specs.Lent.{Lent, Scratch, scratch}
+use Rattle.plot.specs.Head.{cellsOf}
+use Rattle.plot.specs.Record.{recordOf, headOf, readInto, roomFor}
+use Rattle.plot.specs.Store.{loadCheck}
+use Rattle.plot.specs.Report.{reported}
+use Rattle.plot.specs.Plan.{planned}
+use Rattle.plot.specs.Move.{moved}
+use Rattle.plot.specs.declared.Head.{Head}
+use Rattle.plot.specs.declared.Verdict.{Verdict}
+use Rattle.plot.specs.declared.Verdict.the-variants.{Accepted, Refused}
+
+-- "each holds room for 4,096 cells of its own"
+abbrev pub ownRoom : Lent
+ownRoom = roomFor maxCells
+
+abbrev pub ownScratch : Scratch
+ownScratch = scratch (replicate maxCells 0) (replicate maxCells 0) (replicate maxCells 0)
+
+-- the answer, and the caller's bytes afterwards
+pub record AfterC : Type 0 where
+  pub answer : ℕ
+  pub bytes : List ℕ
+
+abbrev pub refusedC : (bytes : List ℕ) → Verdict → AfterC → AfterC
+refusedC bytes Accepted done = done
+refusedC bytes (Refused why) done = record { answer = refusal why; bytes = bytes }
+
+-- "The checks are load's in load's order, then the call's own": a refusal leaves the bytes, and else the record is
+-- "rewritten there"
+unfoldable pub onRecord : (bytes : List ℕ) → Verdict → (answer : ℕ) → Head → Lent → AfterC
+onRecord bytes verdict answer head p =
+    refusedC bytes (loadCheck bytes ownRoom)
+    (refusedC bytes verdict (record { answer = answer; bytes = recordOf head p }))
+
+-- the state that the bytes hold
+abbrev pub stateIn : List ℕ → Lent
+stateIn bytes = readInto (cellsOf (headOf bytes)) bytes ownRoom
+
+unfoldable pub reportedC : (bytes : List ℕ) (c : ℕ) → AfterC
+reportedC bytes c =
+    let r = reported (headOf bytes) (stateIn bytes) c in
+    onRecord bytes (r .answer .verdict) (changedAnswer (r .answer .verdict)) (r .answer .head) (r .held)
+
+unfoldable pub plannedC : (bytes : List ℕ) → AfterC
+plannedC bytes =
+    let r = planned (headOf bytes) (stateIn bytes) ownScratch in
+    onRecord bytes (outcomeVerdict (r .answer .outcome)) (planAnswer (r .answer .outcome)) (r .answer .head) (r .held)
+
+unfoldable pub movedC : (bytes : List ℕ) → AfterC
+movedC bytes =
+    let r = moved (headOf bytes) (stateIn bytes) in
+    onRecord bytes (stepVerdict (r .answer .step)) (moveAnswer (r .answer .head .cell) (r .answer .step)) (r .answer .head) (r .held)

@@ -1,0 +1,38 @@
+-- What the caller lends beside the head, as lists, "with N entries or more each".
+use Prim.Native.Nat.{ℕ}
+use mathlib.Core.List.{List, [], _∷_}
+
+pub record Lent : Type 0 where
+  -- "0 free, 1 known blocked"
+  pub ground : List ℕ
+  -- "the learned distance to the goal"
+  pub learned : List ℕ
+  -- "0 none, or the direction of the next step"
+  pub link : List ℕ
+
+-- "for planning only, three scratch buffers"
+pub record Scratch : Type 0 where
+  -- "0 unseen, 1 waiting, 2 expanded"
+  pub mark : List ℕ
+  -- "65,535 for unseen"
+  pub cost : List ℕ
+  -- "the direction of the step by which the cell was reached; 0 for the cart's cell and for unseen cells"
+  pub trail : List ℕ
+
+abbrev pub lent : (ground learned link : List ℕ) → Lent
+lent ground learned link = record { ground = ground; learned = learned; link = link }
+
+abbrev pub scratch : (mark cost trail : List ℕ) → Scratch
+scratch mark cost trail = record { mark = mark; cost = cost; trail = trail }
+
+-- the buffers, one by one
+abbrev pub buffersOf : Lent → List (List ℕ)
+buffersOf p = p .ground ∷ p .learned ∷ p .link ∷ []
+
+abbrev pub scratchBuffers : Scratch → List (List ℕ)
+scratchBuffers s = s .mark ∷ s .cost ∷ s .trail ∷ []
+
+-- an answer, and what is lent afterwards
+pub record After (A : Type 0) : Type 0 where
+  pub answer : A
+  pub held : Lent

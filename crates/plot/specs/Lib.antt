@@ -1,0 +1,19 @@
+-- Document 01 as definitions that compute, in its order: what the contracts cite.
+pub mod Turns
+pub mod Plot
+pub mod Lent
+pub mod Head
+pub mod Sound
+pub mod Route
+pub mod Numbers
+pub mod Refusals
+pub mod Layout
+pub mod Report
+pub mod Search
+pub mod Plan
+pub mod Move
+pub mod Listing
+pub mod Record
+pub mod Store
+pub mod Controller
+pub mod Ways

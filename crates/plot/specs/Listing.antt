@@ -1,0 +1,41 @@
+-- List the route, and its question.
+use Prim.Native.Nat.{ℕ}
+use mathlib.Core.Bool.{not}
+use mathlib.Core.List.{List, [], _++_}
+use lib.ListN.{length, drop}
+use Rattle.plot.specs.Lent.{Lent}
+use Rattle.plot.specs.Route.{stands, route}
+use Rattle.plot.specs.Refusals.{refuseIf, andThen, tooShort, accepts}
+use Rattle.plot.specs.Numbers.{verdictNumber}
+use Rattle.plot.specs.declared.Head.{Head}
+use Rattle.plot.specs.declared.Reason.the-variants.{Short, NoRoute}
+use Rattle.plot.specs.declared.Verdict.{Verdict}
+use Rattle.plot.specs.declared.Verdict.the-variants.{Accepted, Refused}
+
+-- the filled front of the buffer, and the buffer afterwards
+pub record AfterList : Type 0 where
+  pub front : List ℕ
+  pub buffer : List ℕ
+
+-- "the list buffer's 2 comes after 6"
+unfoldable pub listCheck : Head → Lent → (buffer : List ℕ) → Verdict
+listCheck head p buffer =
+    andThen (accepts head p)
+    (refuseIf (not (stands head p)) NoRoute
+    (refuseIf (tooShort (length (route head p)) buffer) Short Accepted))
+
+-- a front, and after it what stood in the buffer: "entries after it stay"
+abbrev pub fronted : (front buffer : List ℕ) → List ℕ
+fronted front buffer = front ++ drop (length front) buffer
+
+-- "Refused: the empty front, nothing written"
+unfoldable pub listed : Head → Lent → (buffer : List ℕ) → AfterList
+listed head p buffer =
+    elim (listCheck head p buffer) [
+      | Accepted ↦ record { front = route head p; buffer = fronted (route head p) buffer }
+      | Refused why ↦ record { front = []; buffer = buffer }
+    ]
+
+-- "gives the refusal's number, or 0 where list would write"
+unfoldable pub listNumber : Head → Lent → (buffer : List ℕ) → ℕ
+listNumber head p buffer = verdictNumber (listCheck head p buffer)

@@ -1,0 +1,87 @@
+-- Plan.
+use Prim.Native.Nat.{ℕ, zero, suc, _-_}
+use mathlib.Core.Bool.{Bool, true, false, cond}
+use mathlib.Core.List.{List, _++_}
+use lib.ListN.{getD, set}
+use lib.Dec.{ltb, eqb}
+use Rattle.plot.specs.Turns.{filled, tally}
+use Rattle.plot.specs.Plot.{cells, behind}
+use Rattle.plot.specs.Lent.{Lent, Scratch, lent, buffersOf, scratchBuffers}
+use Rattle.plot.specs.Head.{cellsOf, cellsNamed}
+use Rattle.plot.specs.Route.{leadsFrom}
+use Rattle.plot.specs.Refusals.{check}
+use Rattle.plot.specs.Search.{begun, total, Ended, stoppedAt, nothingWaits, outOfTurns, run}
+use Rattle.plot.specs.declared.Head.{Head}
+use Rattle.plot.specs.declared.Verdict.{Verdict}
+use Rattle.plot.specs.declared.Verdict.the-variants.{Accepted, Refused}
+use Rattle.plot.specs.declared.Outcome.{Outcome}
+use Rattle.plot.specs.declared.Planned.{Planned}
+
+-- an answer, and what is lent and the scratch afterwards
+pub record AfterPlan : Type 0 where
+  pub answer : Planned
+  pub held : Lent
+  pub left : Scratch
+
+abbrev pub answered : Head → (count : ℕ) → Outcome → Planned
+answered head count outcome = record { head = head; expanded = count; outcome = outcome }
+
+unfoldable pub planCheck : Head → Lent → Scratch → Verdict
+planCheck head p s = check head p (scratchBuffers s ++ buffersOf p) (cellsNamed head)
+
+-- "If from it links lead to the goal with the learned value falling by exactly 1 each step .. stop there"
+unfoldable pub searched : Head → Lent → Scratch → Ended
+searched head p s =
+    run (head .width) (head .height) p (leadsFrom (head .width) (head .height) (head .goal) p) (cellsOf head)
+    (begun (cellsOf head) (head .cell) s)
+
+abbrev pub isExpanded : (mark : List ℕ) (x : ℕ) → Bool
+isExpanded mark x = eqb (getD mark x 0) 2
+
+-- "the number of cells marked 2"
+unfoldable pub expandedCount : (n : ℕ) (mark : List ℕ) → ℕ
+expandedCount n mark = tally n (isExpanded mark)
+
+-- "each expanded cell x gets learned = cost(s) + learned(s) - cost(x)": the learned value of x after a search that found
+-- a route of this length
+unfoldable pub lesson : (length : ℕ) (learned mark cost : List ℕ) (x : ℕ) → ℕ
+lesson length learned mark cost x = cond (isExpanded mark x) (length - getD cost x 0) (getD learned x 0)
+
+-- "links are set along the trail from the cart's cell to s; other links stay": back from c, whose cost is v. The test
+-- keeps a trail that no search left on the plot; a search's trail never leaves it (proofs/Trailing, `trail-leads-back`)
+unfoldable pub linked : (w h : ℕ) (trail : List ℕ) (v c : ℕ) → List ℕ → List ℕ
+linked w h trail zero c link = link
+linked w h trail (suc v) c link =
+    let d = getD trail c 0 in
+    let b = behind w h c d in
+    elim (ltb b (cells w h)) [ true ↦ linked w h trail v b (set link b d) | false ↦ link ]
+
+-- stopped at c with this scratch
+unfoldable pub improved : Head → Lent → (c : ℕ) → Scratch → Lent
+improved head p c s =
+    lent (p .ground)
+    (filled (cellsOf head) (lesson (total (p .learned) (s .cost) c) (p .learned) (s .mark) (s .cost)) (p .learned))
+    (linked (head .width) (head .height) (s .trail) (getD (s .cost) c 0) c (p .link))
+
+-- what is answered and left where the search ended so; it never runs out of turns
+unfoldable pub concluded : Head → Lent → Ended → AfterPlan
+concluded head p (stoppedAt c s) = record {
+  answer = answered head (expandedCount (cellsOf head) (s .mark)) (Outcome.Route (total (p .learned) (s .cost) c));
+  held = improved head p c s;
+  left = s;
+}
+concluded head p (nothingWaits s) =
+    record { answer = answered head (expandedCount (cellsOf head) (s .mark)) Outcome.NoWay; held = p; left = s }
+concluded head p (outOfTurns s) =
+    record { answer = answered head (expandedCount (cellsOf head) (s .mark)) Outcome.NoWay; held = p; left = s }
+
+-- "if the cart is on the goal the answer is "arrived", and nothing changes, scratch included"
+unfoldable pub planned : Head → Lent → Scratch → AfterPlan
+planned head p s =
+    elim (planCheck head p s) [
+      | Accepted ↦ elim (eqb (head .cell) (head .goal)) [
+        | true ↦ record { answer = answered head 0 Outcome.Arrived; held = p; left = s }
+        | false ↦ concluded head p (searched head p s)
+      ]
+      | Refused why ↦ record { answer = answered head 0 (Outcome.Refused why); held = p; left = s }
+    ]

@@ -1,0 +1,43 @@
+-- Report (a cell is blocked).
+use Prim.Native.Nat.{ℕ}
+use mathlib.Core.Bool.{cond, _||_}
+use mathlib.Core.List.{List, _∷_}
+use lib.ListN.{getD, set}
+use lib.Dec.{eqb}
+use Rattle.plot.specs.Turns.{filled}
+use Rattle.plot.specs.Plot.{cells, free}
+use Rattle.plot.specs.Lent.{Lent, lent, buffersOf, After}
+use Rattle.plot.specs.Head.{cellsNamed}
+use Rattle.plot.specs.Route.{next}
+use Rattle.plot.specs.Refusals.{refuseIf, andThen, check}
+use Rattle.plot.specs.Layout.{changed}
+use Rattle.plot.specs.declared.Head.{Head}
+use Rattle.plot.specs.declared.Reason.the-variants.{OwnCell}
+use Rattle.plot.specs.declared.Verdict.{Verdict}
+use Rattle.plot.specs.declared.Verdict.the-variants.{Accepted, Refused}
+use Rattle.plot.specs.declared.Changed.{Changed}
+
+unfoldable pub reportCheck : Head → Lent → (c : ℕ) → Verdict
+reportCheck head p c =
+    andThen (check head p (buffersOf p) (c ∷ cellsNamed head)) (refuseIf (eqb c (head .cell)) OwnCell Accepted)
+
+-- "its link becomes 0, and so does each neighbour's link that pointed to it": the link of x once c is blocked
+unfoldable pub linkOnceBlocked : (w h : ℕ) (link : List ℕ) (c x : ℕ) → ℕ
+linkOnceBlocked w h link c x = cond (eqb x c || eqb (next w h link x) c) 0 (getD link x 0)
+
+unfoldable pub linksOnceBlocked : (w h : ℕ) (link : List ℕ) (c : ℕ) → List ℕ
+linksOnceBlocked w h link c = filled (cells w h) (linkOnceBlocked w h link c) link
+
+-- "ground becomes 1 there .. Learned values stay. A cell already blocked is accepted and nothing changes"
+unfoldable pub blocked : Head → Lent → (c : ℕ) → Lent
+blocked head p c =
+    cond (free (p .ground) c)
+    (lent (set (p .ground) c 1) (p .learned) (linksOnceBlocked (head .width) (head .height) (p .link) c))
+    p
+
+unfoldable pub reported : Head → Lent → (c : ℕ) → After Changed
+reported head p c =
+    elim (reportCheck head p c) [
+      | Accepted ↦ record { answer = changed head Accepted; held = blocked head p c }
+      | Refused why ↦ record { answer = changed head (Refused why); held = p }
+    ]
