@@ -1,7 +1,7 @@
 -- The tests of a call say what `Held` says: accepted data are placed, have room and fit.
 -- Assumes nothing.
 use mathlib.Core.Path.{_≡_, refl}
-use mathlib.Core.Bool.{Bool, true, false, not, _||_}
+use mathlib.Core.Bool.{Bool, true, false, not}
 use mathlib.Core.List.{List, [], _∷_}
 use Prim.Native.Nat.{ℕ, _≤_, _<_}
 use native.Mathlib.Nat.{mul-le-mul}
@@ -10,7 +10,7 @@ use borrow.Author.Tests.{ltb-false, leb-false, eqb-false, le-ltb, lt-leb, not-fa
 use lib.Dec.{ltb, leb, eqb}
 use lib.ListN.{length}
 use Rattle.plot.specs.Plot.{maxSide, maxCells, badSide, badSides, cells}
-use Rattle.plot.specs.Lent.{Lent, Scratch, buffersOf, scratchBuffers}
+use Rattle.plot.specs.Lent.{Lent, buffersOf}
 use Rattle.plot.specs.Head.{cellsOf, cellsNamed}
 use Rattle.plot.specs.Sound.{sound}
 use Rattle.plot.specs.Refusals.{refuseIf, andThen, tooShort, anyShort, anyOutside, fits, check}
@@ -20,7 +20,7 @@ use Rattle.plot.specs.declared.Reason.{Reason}
 use Rattle.plot.specs.declared.Verdict.{Verdict}
 use Rattle.plot.specs.declared.Verdict.the-variants.{Accepted, Refused}
 use Rattle.plot.proofs.Bools.{or-false}
-use Rattle.plot.proofs.Fit.{Fit, Room, Sized, Placed, Held}
+use Rattle.plot.proofs.Fit.{Room, Placed, Held}
 use Rattle.plot.proofs.Soundness.{sound-fit, fit-sound}
 
 -- One test after another --------------------------------------------------------------------------------------------------------

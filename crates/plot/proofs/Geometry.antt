@@ -9,7 +9,7 @@ use native.Mathlib.Numerals.{add-one}
 use native.Mathlib.Omega.{arith}
 use borrow.Author.Tests.{ltb-true, leb-true, ne-eqb, lt-ltb, le-leb}
 use lib.Dec.{ltb, leb}
-use Rattle.plot.specs.Plot.{cells, row, column, ahead, opposite, behind, free, allowed}
+use Rattle.plot.specs.Plot.{cells, column, ahead, opposite, behind, free, allowed}
 use Rattle.plot.specs.Ways.{Way, Adj}
 use Rattle.plot.proofs.Bools.{and-left, and-right, and-both}
 

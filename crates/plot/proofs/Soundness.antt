@@ -2,12 +2,12 @@
 -- Assumes nothing.
 use mathlib.Core.Path.{_≡_, refl, sym, ap, _∙_}
 use mathlib.Core.Logic.{_≢_}
-use mathlib.Core.Bool.{Bool, true, false, not, _&&_, _||_, false≢true}
+use mathlib.Core.Bool.{Bool, true, false, not, false≢true}
 use mathlib.Core.List.{List}
 use Prim.Native.Nat.{ℕ, zero, suc, _≤_, _<_}
 use native.Mathlib.Omega.{arith}
 use borrow.Author.Tests.{ltb-true, leb-true, eqb-true, eqb-false, eq-eqb, ne-eqb, lt-ltb, le-leb}
-use lib.Dec.{leb, eqb}
+use lib.Dec.{eqb}
 use lib.ListN.{getD}
 use Rattle.walks.specs.Walk.{Consistent}
 use Rattle.plot.specs.Turns.{every}
@@ -15,7 +15,7 @@ use Rattle.plot.specs.Plot.{cells, ahead, inEach, allowed, gap}
 use Rattle.plot.specs.Lent.{Lent}
 use Rattle.plot.specs.Head.{cellsOf}
 use Rattle.plot.specs.Sound.{groundEntry, groundSound, learnedEntry, learnedSound, stepClose, cellClose, neighboursClose, linkEntry, linksSound, sound}
-use Rattle.plot.specs.Ways.{Way, Adj}
+use Rattle.plot.specs.Ways.{Adj}
 use Rattle.plot.specs.declared.Head.{Head}
 use Rattle.plot.proofs.Bools.{and-left, and-right, and-both, or-right, make-or, use-test, make-test}
 use Rattle.plot.proofs.Turns.{every-at, all-every}

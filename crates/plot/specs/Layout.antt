@@ -1,18 +1,14 @@
 -- Lay out (sizes, start, goal).
 use Prim.Native.Nat.{ℕ}
-use mathlib.Core.List.{List, [], _∷_}
+use mathlib.Core.List.{[], _∷_}
 use Rattle.plot.specs.Turns.{filled, each}
 use Rattle.plot.specs.Plot.{cells, distance}
 use Rattle.plot.specs.Lent.{Lent, lent, buffersOf, After}
 use Rattle.plot.specs.Head.{headAt, noHead}
-use Rattle.plot.specs.Refusals.{fits}
-use Rattle.plot.specs.declared.Head.{Head}
+use Rattle.plot.specs.Refusals.{fits, changed}
 use Rattle.plot.specs.declared.Verdict.{Verdict}
 use Rattle.plot.specs.declared.Verdict.the-variants.{Accepted, Refused}
 use Rattle.plot.specs.declared.Changed.{Changed}
-
-abbrev pub changed : Head → Verdict → Changed
-changed head verdict = record { head = head; verdict = verdict }
 
 unfoldable pub layoutCheck : (w h start goal : ℕ) → Lent → Verdict
 layoutCheck w h start goal p = fits w h (buffersOf p) (goal ∷ start ∷ [])

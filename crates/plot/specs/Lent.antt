@@ -1,6 +1,7 @@
 -- What the caller lends beside the head, as lists, "with N entries or more each".
 use Prim.Native.Nat.{ℕ}
-use mathlib.Core.List.{List, [], _∷_}
+use mathlib.Core.List.{List, [], _∷_, _++_}
+use lib.ListN.{length, drop}
 
 pub record Lent : Type 0 where
   -- "0 free, 1 known blocked"
@@ -31,6 +32,10 @@ buffersOf p = p .ground ∷ p .learned ∷ p .link ∷ []
 
 abbrev pub scratchBuffers : Scratch → List (List ℕ)
 scratchBuffers s = s .mark ∷ s .cost ∷ s .trail ∷ []
+
+-- a buffer with these entries at its front; "entries after it stay"
+abbrev pub fronted : (front buffer : List ℕ) → List ℕ
+fronted front buffer = front ++ drop (length front) buffer
 
 -- an answer, and what is lent afterwards
 pub record After (A : Type 0) : Type 0 where

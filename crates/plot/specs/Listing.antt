@@ -1,9 +1,9 @@
 -- List the route, and its question.
 use Prim.Native.Nat.{ℕ}
 use mathlib.Core.Bool.{not}
-use mathlib.Core.List.{List, [], _++_}
-use lib.ListN.{length, drop}
-use Rattle.plot.specs.Lent.{Lent}
+use mathlib.Core.List.{List, []}
+use lib.ListN.{length}
+use Rattle.plot.specs.Lent.{Lent, fronted}
 use Rattle.plot.specs.Route.{stands, route}
 use Rattle.plot.specs.Refusals.{refuseIf, andThen, tooShort, accepts}
 use Rattle.plot.specs.Numbers.{verdictNumber}
@@ -23,10 +23,6 @@ listCheck head p buffer =
     andThen (accepts head p)
     (refuseIf (not (stands head p)) NoRoute
     (refuseIf (tooShort (length (route head p)) buffer) Short Accepted))
-
--- a front, and after it what stood in the buffer: "entries after it stay"
-abbrev pub fronted : (front buffer : List ℕ) → List ℕ
-fronted front buffer = front ++ drop (length front) buffer
 
 -- "Refused: the empty front, nothing written"
 unfoldable pub listed : Head → Lent → (buffer : List ℕ) → AfterList

@@ -1,5 +1,4 @@
 -- Move.
-use Prim.Native.Nat.{ℕ}
 use mathlib.Core.Bool.{true, false}
 use lib.ListN.{set}
 use lib.Dec.{eqb}

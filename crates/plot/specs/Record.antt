@@ -5,7 +5,6 @@ use mathlib.Core.List.{List, [], _∷_, _++_}
 use lib.ListN.{length, getD, take, drop, replicate}
 use lib.Dec.{ltb, eqb}
 use Rattle.plot.specs.Turns.{filled, gathered}
-use Rattle.plot.specs.Plot.{cells}
 use Rattle.plot.specs.Lent.{Lent, lent}
 use Rattle.plot.specs.Head.{headAt, cellsOf}
 use Rattle.plot.specs.declared.Head.{Head}

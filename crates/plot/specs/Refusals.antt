@@ -13,6 +13,7 @@ use Rattle.plot.specs.declared.Reason.{Reason}
 use Rattle.plot.specs.declared.Reason.the-variants.{Sides, Short, Outside, Unsound}
 use Rattle.plot.specs.declared.Verdict.{Verdict}
 use Rattle.plot.specs.declared.Verdict.the-variants.{Accepted, Refused}
+use Rattle.plot.specs.declared.Changed.{Changed}
 
 -- refused for this reason where the test passes; else what the next tests say
 abbrev pub refuseIf : Bool → Reason → Verdict → Verdict
@@ -52,3 +53,7 @@ check head p buffers named =
 -- .. where it is given nothing beside the head and what is lent: the data are accepted
 abbrev pub accepts : Head → Lent → Verdict
 accepts head p = check head p (buffersOf p) (cellsNamed head)
+
+-- the answer of a call that changes what is lent: the next head, and the verdict
+abbrev pub changed : Head → Verdict → Changed
+changed head verdict = record { head = head; verdict = verdict }

@@ -9,8 +9,7 @@ use Rattle.plot.specs.Plot.{cells, free}
 use Rattle.plot.specs.Lent.{Lent, lent, buffersOf, After}
 use Rattle.plot.specs.Head.{cellsNamed}
 use Rattle.plot.specs.Route.{next}
-use Rattle.plot.specs.Refusals.{refuseIf, andThen, check}
-use Rattle.plot.specs.Layout.{changed}
+use Rattle.plot.specs.Refusals.{refuseIf, andThen, check, changed}
 use Rattle.plot.specs.declared.Head.{Head}
 use Rattle.plot.specs.declared.Reason.the-variants.{OwnCell}
 use Rattle.plot.specs.declared.Verdict.{Verdict}

@@ -24,7 +24,7 @@ abbrev pub total : (learned cost : List ℕ) → ℕ → ℕ
 total learned cost c = getD cost c 0 + getD learned c 0
 
 -- the smaller of x and y comes first; among equals the next rule says
-abbrev pub smallerFirst : (x y : ℕ) (next : Bool) → Bool
+unfoldable pub smallerFirst : (x y : ℕ) (next : Bool) → Bool
 smallerFirst x y next = ltb x y || (eqb x y && next)
 
 -- "the smallest cost + learned; among these the larger cost; among these the lower cell number": a is taken before b

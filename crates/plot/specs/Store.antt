@@ -3,12 +3,10 @@ use Prim.Native.Nat.{ℕ}
 use mathlib.Core.Bool.{not}
 use mathlib.Core.List.{List}
 use Rattle.plot.specs.Plot.{badSides}
-use Rattle.plot.specs.Lent.{Lent, buffersOf, After}
+use Rattle.plot.specs.Lent.{Lent, buffersOf, After, fronted}
 use Rattle.plot.specs.Head.{noHead, cellsOf, cellsNamed}
 use Rattle.plot.specs.Sound.{sound}
-use Rattle.plot.specs.Refusals.{refuseIf, andThen, tooShort, anyShort, anyOutside, accepts}
-use Rattle.plot.specs.Layout.{changed}
-use Rattle.plot.specs.Listing.{fronted}
+use Rattle.plot.specs.Refusals.{refuseIf, andThen, tooShort, anyShort, anyOutside, accepts, changed}
 use Rattle.plot.specs.Record.{recordLength, recordOf, headOf, readInto, sidesFormed, formed}
 use Rattle.plot.specs.declared.Head.{Head}
 use Rattle.plot.specs.declared.Reason.the-variants.{Sides, Short, Outside, Unsound, Form}

@@ -1,6 +1,6 @@
 -- What a loop over the numbers below n says, counts, fills and gathers: each has one clause for one turn more.
 use Prim.Native.Nat.{ℕ, zero, suc, _+_}
-use mathlib.Core.Bool.{Bool, true, false, cond, _&&_}
+use mathlib.Core.Bool.{Bool, true, cond, _&&_}
 use mathlib.Core.List.{List, [], _++_}
 use lib.ListN.{set}
 

@@ -1,0 +1,94 @@
+-- What plan leaves: the route stands, no learned value falls, the data are accepted again, and the count is right.
+-- Assumes nothing.
+use mathlib.Core.Path.{_≡_, refl, _∙_}
+use mathlib.Core.Logic.{_≢_}
+use mathlib.Core.Bool.{true}
+use Prim.Native.Nat.{ℕ, _≤_}
+use native.Mathlib.Omega.{arith}
+use lib.ListN.{getD}
+use Rattle.walks.proofs.Routes.{route-length}
+use Rattle.plot.specs.Turns.{tally}
+use Rattle.plot.specs.Plot.{free}
+use Rattle.plot.specs.Lent.{Lent, Scratch}
+use Rattle.plot.specs.Head.{cellsOf}
+use Rattle.plot.specs.Route.{stands}
+use Rattle.plot.specs.Search.{total}
+use Rattle.plot.specs.Plan.{AfterPlan, planCheck, expandedCount, planned}
+use Rattle.plot.specs.declared.Head.{Head}
+use Rattle.plot.specs.declared.Verdict.the-variants.{Accepted}
+use Rattle.plot.specs.declared.Outcome.{Outcome}
+use Rattle.plot.proofs.Fit.{Held}
+use Rattle.plot.proofs.Accepting.{not-both}
+use Rattle.plot.proofs.Routing.{route-leads}
+use Rattle.plot.proofs.Learning.{goal-halts, stopped-zero, stopped-rises, expanded-free}
+use Rattle.plot.proofs.Trailing.{lentAfter, stopped-route, stopped-fit, stopped-room}
+use Rattle.plot.proofs.Planning.{Planning, plan-refused, plan-there, plan-none, plan-found, plan-is}
+
+-- whatever plan answers
+pub record PlanKeeps (head : Head) (p : Lent) (s : Scratch) (r : AfterPlan) : Type 0 where
+  pub same-head : r .answer .head ≡ head
+  pub same-ground : r .held .ground ≡ p .ground
+  -- no learned value falls
+  pub rises : (x : ℕ) → getD (p .learned) x 0 ≤ getD (r .held .learned) x 0
+  -- data once accepted are accepted
+  pub held : Held head p → Held head (r .held)
+  -- the count is at most the number of free cells ..
+  pub count-free : r .answer .expanded ≤ tally (cellsOf head) (free (p .ground))
+  -- .. and after a search the number of cells marked 2
+  pub count-marks : planCheck head p s ≡ Accepted → head .cell ≢ head .goal → r .answer .expanded ≡ expandedCount (cellsOf head) (r .left .mark)
+
+module _ (head : Head) (p : Lent) (s : Scratch) where
+  keeps : {r : AfterPlan} → Planning head p s r → PlanKeeps head p s r
+  keeps (plan-refused e) = record {
+    same-head = refl;
+    same-ground = refl;
+    rises = λ x. omega arith;
+    held = λ a. a;
+    count-free = omega arith;
+    count-marks = λ ok. absurd (not-both e ok);
+  }
+  keeps (plan-there a ok e) = record {
+    same-head = refl;
+    same-ground = refl;
+    rises = λ x. omega arith;
+    held = λ a. a;
+    count-free = omega arith;
+    count-marks = λ _ d. absurd (d e);
+  }
+  keeps (plan-none {t = t} a ok d x) = record {
+    same-head = refl;
+    same-ground = refl;
+    rises = λ x. omega arith;
+    held = λ a. a;
+    count-free = expanded-free p _ (a .placed) (a .fit) (goal-halts (head .width) (head .height) (head .goal) p) t (x .holds) (x .sized);
+    count-marks = λ _ _. refl;
+  }
+  keeps (plan-found {c = c} {t = t} a ok d x) = record {
+    same-head = refl;
+    same-ground = refl;
+    rises = stopped-rises p (a .placed) (a .room) (a .fit) c t x;
+    held = λ _. record {
+      placed = a .placed;
+      room = stopped-room p (a .placed) (a .room) (a .fit) c t x;
+      fit = stopped-fit p (a .placed) (a .room) (a .fit) c t x;
+    };
+    count-free = expanded-free p _ (a .placed) (a .fit) (goal-halts (head .width) (head .height) (head .goal) p) t (x .holds) (x .sized);
+    count-marks = λ _ _. refl;
+  }
+
+  pub plan-keeps : PlanKeeps head p s (planned head p s)
+  plan-keeps = keeps (plan-is head p s)
+
+  -- after Route L the cart's route stands, and its learned distance is L
+  stands-after : {r : AfterPlan} → Planning head p s r → (L : ℕ) → r .answer .outcome ≡ Outcome.Route L → (stands head (r .held) ≡ true) × (getD (r .held .learned) (head .cell) 0 ≡ L)
+  stands-after (plan-refused e) L q = let z : _≡_ {A = ℕ} 0 1 = cc in absurd (omega arith)
+  stands-after (plan-there a ok e) L q = let z : _≡_ {A = ℕ} 0 1 = cc in absurd (omega arith)
+  stands-after (plan-none a ok d x) L q = let z : _≡_ {A = ℕ} 0 1 = cc in absurd (omega arith)
+  stands-after (plan-found {c = c} {t = t} a ok d x) L q =
+      let e : total (p .learned) (t .cost) c ≡ L = cc in
+      let route = stopped-route p (a .placed) (a .room) (a .fit) c t x in
+      let z = stopped-zero p (a .placed) (a .room) (a .fit) c t x in
+      (route-leads (head .width) (head .height) (head .goal) (lentAfter (head .width) (head .height) p c t) z route, route-length z route ∙ e)
+
+  pub route-stands-after : (L : ℕ) → planned head p s .answer .outcome ≡ Outcome.Route L → (stands head (planned head p s .held) ≡ true) × (getD (planned head p s .held .learned) (head .cell) 0 ≡ L)
+  route-stands-after L q = stands-after (plan-is head p s) L q
