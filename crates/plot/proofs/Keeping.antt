@@ -13,7 +13,7 @@ use Rattle.plot.specs.Lent.{Lent, Scratch}
 use Rattle.plot.specs.Head.{cellsOf}
 use Rattle.plot.specs.Route.{stands}
 use Rattle.plot.specs.Search.{total}
-use Rattle.plot.specs.Plan.{AfterPlan, planCheck, expandedCount, planned}
+use Rattle.plot.specs.Plan.{AfterPlan, improved, planCheck, expandedCount, planned}
 use Rattle.plot.specs.declared.Head.{Head}
 use Rattle.plot.specs.declared.Verdict.the-variants.{Accepted}
 use Rattle.plot.specs.declared.Outcome.{Outcome}
@@ -21,8 +21,15 @@ use Rattle.plot.proofs.Fit.{Held}
 use Rattle.plot.proofs.Accepting.{not-both}
 use Rattle.plot.proofs.Routing.{route-leads}
 use Rattle.plot.proofs.Learning.{goal-halts, stopped-zero, stopped-rises, expanded-free}
-use Rattle.plot.proofs.Trailing.{lentAfter, stopped-route, stopped-fit, stopped-room}
+use Rattle.plot.proofs.Trailing.{stopped-route, stopped-fit, stopped-room}
 use Rattle.plot.proofs.Planning.{Planning, plan-refused, plan-there, plan-none, plan-found, plan-is}
+
+-- no search: the cart has arrived, or the call is refused
+abbrev pub Unsearched : Outcome → Type 0
+Unsearched (Outcome.Route L) = ⊥
+Unsearched Outcome.NoWay = ⊥
+Unsearched Outcome.Arrived = Unit {0}
+Unsearched (Outcome.Refused why) = Unit {0}
 
 -- whatever plan answers
 pub record PlanKeeps (head : Head) (p : Lent) (s : Scratch) (r : AfterPlan) : Type 0 where
@@ -32,20 +39,27 @@ pub record PlanKeeps (head : Head) (p : Lent) (s : Scratch) (r : AfterPlan) : Ty
   pub rises : (x : ℕ) → getD (p .learned) x 0 ≤ getD (r .held .learned) x 0
   -- data once accepted are accepted
   pub held : Held head p → Held head (r .held)
-  -- the count is at most the number of free cells ..
+  -- the count is at most the number of free cells; ..
   pub count-free : r .answer .expanded ≤ tally (cellsOf head) (free (p .ground))
-  -- .. and after a search the number of cells marked 2
+  -- .. without a search it is 0, and scratch stays; ..
+  pub unsearched : Unsearched (r .answer .outcome) → (r .answer .expanded ≡ 0) × (r .left ≡ s)
+  -- .. and after one the number of cells marked 2
   pub count-marks : planCheck head p s ≡ Accepted → head .cell ≢ head .goal → r .answer .expanded ≡ expandedCount (cellsOf head) (r .left .mark)
+  -- without a route what is lent stays: after "no way", on the goal, and refused
+  pub routeless : ((L : ℕ) → r .answer .outcome ≢ Outcome.Route L) → r .held ≡ p
 
 module _ (head : Head) (p : Lent) (s : Scratch) where
   keeps : {r : AfterPlan} → Planning head p s r → PlanKeeps head p s r
+  unfolding improved
   keeps (plan-refused e) = record {
     same-head = refl;
     same-ground = refl;
     rises = λ x. omega arith;
     held = λ a. a;
     count-free = omega arith;
+    unsearched = λ _. (refl, refl);
     count-marks = λ ok. absurd (not-both e ok);
+    routeless = λ _. refl;
   }
   keeps (plan-there a ok e) = record {
     same-head = refl;
@@ -53,7 +67,9 @@ module _ (head : Head) (p : Lent) (s : Scratch) where
     rises = λ x. omega arith;
     held = λ a. a;
     count-free = omega arith;
+    unsearched = λ _. (refl, refl);
     count-marks = λ _ d. absurd (d e);
+    routeless = λ _. refl;
   }
   keeps (plan-none {t = t} a ok d x) = record {
     same-head = refl;
@@ -61,7 +77,9 @@ module _ (head : Head) (p : Lent) (s : Scratch) where
     rises = λ x. omega arith;
     held = λ a. a;
     count-free = expanded-free p _ (a .placed) (a .fit) (goal-halts (head .width) (head .height) (head .goal) p) t (x .holds) (x .sized);
+    unsearched = λ u. absurd u;
     count-marks = λ _ _. refl;
+    routeless = λ _. refl;
   }
   keeps (plan-found {c = c} {t = t} a ok d x) = record {
     same-head = refl;
@@ -73,7 +91,9 @@ module _ (head : Head) (p : Lent) (s : Scratch) where
       fit = stopped-fit p (a .placed) (a .room) (a .fit) c t x;
     };
     count-free = expanded-free p _ (a .placed) (a .fit) (goal-halts (head .width) (head .height) (head .goal) p) t (x .holds) (x .sized);
+    unsearched = λ u. absurd u;
     count-marks = λ _ _. refl;
+    routeless = λ no-route. absurd (no-route _ refl);
   }
 
   pub plan-keeps : PlanKeeps head p s (planned head p s)
@@ -88,7 +108,7 @@ module _ (head : Head) (p : Lent) (s : Scratch) where
       let e : total (p .learned) (t .cost) c ≡ L = cc in
       let route = stopped-route p (a .placed) (a .room) (a .fit) c t x in
       let z = stopped-zero p (a .placed) (a .room) (a .fit) c t x in
-      (route-leads (head .width) (head .height) (head .goal) (lentAfter (head .width) (head .height) p c t) z route, route-length z route ∙ e)
+      (route-leads (head .width) (head .height) (head .goal) (improved (head .width) (head .height) p c t) z route, route-length z route ∙ e)
 
   pub route-stands-after : (L : ℕ) → planned head p s .answer .outcome ≡ Outcome.Route L → (stands head (planned head p s .held) ≡ true) × (getD (planned head p s .held .learned) (head .cell) 0 ≡ L)
   route-stands-after L q = stands-after (plan-is head p s) L q

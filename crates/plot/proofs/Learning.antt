@@ -1,10 +1,10 @@
 -- What plan learns after a stop: the length is the fewest steps, values never fall, stay consistent and below N.
 -- Assumes nothing.
-use mathlib.Core.Path.{_≡_, sym, _∙_}
+use mathlib.Core.Path.{_≡_, refl, sym, _∙_}
 use mathlib.Core.Logic.{_≢_}
 use mathlib.Core.Bool.{Bool, true}
 use mathlib.Core.List.{List}
-use Prim.Native.Nat.{ℕ, _-_, _≤_, _<_}
+use Prim.Native.Nat.{ℕ, zero, suc, _-_, _≤_, _<_}
 use native.Mathlib.Decide.{decLt}
 use native.Mathlib.Omega.{arith}
 use borrow.Author.Tests.{eqb-true, eq-eqb, ne-eqb}
@@ -15,12 +15,12 @@ use Rattle.walks.proofs.Pigeonhole.{fewest-below}
 use Rattle.walks.proofs.Learning.{length-bounds, rises, stays-consistent, goal-stays, learned-bounded}
 use Rattle.walks.proofs.Routes.{route-walk}
 use Rattle.walks.proofs.Searches.{stop-fewest, no-way}
-use Rattle.plot.specs.Turns.{filled, tally}
+use Rattle.plot.specs.Turns.{tally}
 use Rattle.plot.specs.Plot.{cells, free}
 use Rattle.plot.specs.Lent.{Lent, Scratch}
 use Rattle.plot.specs.Route.{leadsFrom}
 use Rattle.plot.specs.Search.{total}
-use Rattle.plot.specs.Plan.{isExpanded, expandedCount, lesson}
+use Rattle.plot.specs.Plan.{isExpanded, expandedCount, lesson, improved}
 use Rattle.plot.specs.Ways.{Adj}
 use Rattle.plot.proofs.Turns.{tally-mono, filled-above, filled-at}
 use Rattle.plot.proofs.Geometry.{adj-inside}
@@ -36,19 +36,27 @@ goal-halts w h goal p = leads-goal w h goal (p .learned) (p .link) (getD (p .lea
 
 -- the learned values after a stop at t
 abbrev pub learnedAfter : (w h : ℕ) → Lent → (t : ℕ) → Scratch → List ℕ
-learnedAfter w h p t s = filled (cells w h) (lesson (total (p .learned) (s .cost) t) (p .learned) (s .mark) (s .cost)) (p .learned)
+learnedAfter w h p t s = improved w h p t s .learned
 
 module _ (v : ℕ) (learned mark cost : List ℕ) (x : ℕ) where
   lesson-yes : getD mark x 0 ≡ 2 → lesson v learned mark cost x ≡ v - getD cost x 0
   unfolding lesson
-  lesson-yes e = rw (eq-eqb (getD mark x 0) 2 e)
+  lesson-yes e = rw e
 
+  -- unseen and waiting cells keep what they have
   lesson-no : getD mark x 0 ≢ 2 → lesson v learned mark cost x ≡ getD learned x 0
   unfolding lesson
-  lesson-no n = rw (ne-eqb (getD mark x 0) 2 n)
+  lesson-no n = go (getD mark x 0) refl n
+    where
+      go : (m : ℕ) → getD mark x 0 ≡ m → m ≢ 2 → lesson v learned mark cost x ≡ getD learned x 0
+      go zero e d = rw e
+      go (suc zero) e d = rw e
+      go (suc (suc zero)) e d = absurd (d refl)
+      go (suc (suc (suc m))) e d = rw (ne-eqb (getD mark x 0) 2 n)
 
 -- learning over lists is the theory's
 learns : (w h : ℕ) (p : Lent) (t : ℕ) (s : Scratch) → cells w h ≤ length (p .learned) → Learns (view (cells w h) s) (at (p .learned)) (at (learnedAfter w h p t s)) t
+unfolding improved
 learns w h p t s r = record {
   raised = λ x e.
       let i = seen-inside (cells w h) (s .mark) x (omega arith) in

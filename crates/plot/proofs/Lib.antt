@@ -31,4 +31,3 @@ pub mod Storing
 pub mod Controlling
 pub mod Beyond
 pub mod PlanBeyond
-pub mod Examples

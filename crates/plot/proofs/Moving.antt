@@ -70,7 +70,7 @@ move-is head p = go _ refl
 module _ (head : Head) (p : Lent) (a : Held head p) (d : head .cell ≢ head .goal) (t : stands head p ≡ true) where
   -- the cell that the cart goes to
   abbrev onward : ℕ
-  onward = next (head .width) (head .height) (p .link) (head .cell)
+  onward = headOnward head p .cell
 
   route-here : RouteOn (head .width) (head .height) (head .goal) p (head .cell) (at (p .learned) (head .cell))
   route-here = leads-stands p (a .fit) (head .cell) (a .placed .cart-on) t
@@ -154,7 +154,7 @@ module _ (head : Head) (p : Lent) where
   nearer (move-there a e) q = let z : _≡_ {A = ℕ} 0 1 = cc in absurd (omega arith)
   nearer (move-lost a d t) q = let z : _≡_ {A = ℕ} 0 1 = cc in absurd (omega arith)
   nearer (move-went a d t) q = record {
-    left = at (p .learned) (next (head .width) (head .height) (p .link) (head .cell));
+    left = at (p .learned) (headOnward head p .cell);
     before = rw (next-lower head p a d t) at (fewest-here head p a d t);
     after = fewest-next head p a d t;
     onward = moved-stands head p a d t;

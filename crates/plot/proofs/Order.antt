@@ -40,14 +40,21 @@ first-self : (x : ℕ) (next : Bool) → smallerFirst x x next ≡ next
 unfolding smallerFirst
 first-self x next = rw (le-ltb x x (omega arith), eq-eqb x x refl)
 
-first-trans : (x y z : ℕ) (a b c : Bool) → (a ≡ true → b ≡ true → c ≡ true) → smallerFirst x y a ≡ true → smallerFirst y z b ≡ true → smallerFirst x z c ≡ true
-first-trans x y z a b c on e f = is-first x z c (go (first-is x y a e) (first-is y z b f))
+-- the order of x and y, followed by that of u and v, is that of p and q
+record Follows (x y u v p q : ℕ) : Type 0 where
+  less-then : x < y → u ≤ v → p < q
+  then-less : x ≤ y → u < v → p < q
+  equals : x ≡ y → u ≡ v → p ≡ q
+
+first-trans : (x y u v p q : ℕ) (a b c : Bool) → Follows x y u v p q → (a ≡ true → b ≡ true → c ≡ true)
+    → smallerFirst x y a ≡ true → smallerFirst u v b ≡ true → smallerFirst p q c ≡ true
+first-trans x y u v p q a b c t on e f = is-first p q c (go (first-is x y a e) (first-is u v b f))
   where
-    go : First x y a → First y z b → First x z c
-    go (less l) (less k) = less (omega arith)
-    go (less l) (equal k n) = less (omega arith)
-    go (equal l m) (less k) = less (omega arith)
-    go (equal l m) (equal k n) = equal (omega arith) (on m n)
+    go : First x y a → First u v b → First p q c
+    go (less i) (less j) = less (t .less-then i (omega arith))
+    go (less i) (equal j _) = less (t .less-then i (omega arith))
+    go (equal i _) (less j) = less (t .then-less (omega arith) j)
+    go (equal i n) (equal j o) = equal (t .equals i j) (on n o)
 
 -- of two numbers one comes first, or they are equal and the next rule says
 first-total : (x y : ℕ) (a b : Bool) → (x ≡ y → a ≡ false → b ≡ true) → smallerFirst x y a ≡ false → smallerFirst y x b ≡ true
@@ -64,18 +71,18 @@ first-total x y a b on = go _ _ refl refl
 module _ (learned : List ℕ) (s : Scratch) where
   pub earlier-not-itself : (a : ℕ) → earlier learned s a a ≡ false
   unfolding earlier
-  earlier-not-itself a = first-self _ _ ∙ (first-self _ _ ∙ le-ltb a a (omega arith))
+  earlier-not-itself a = first-self _ _ ∙ (first-self _ _ ∙ first-self _ _)
 
   pub earlier-trans : (a b c : ℕ) → earlier learned s a b ≡ true → earlier learned s b c ≡ true → earlier learned s a c ≡ true
   unfolding earlier
   earlier-trans a b c =
-      -- the larger cost comes first, so there the two go the other way round
-      first-trans _ _ _ _ _ _ (λ e f. first-trans _ _ _ _ _ _ (λ k l. lt-ltb a c (omega (arith, ltb-true a b l, ltb-true b c k))) f e)
+      first-trans _ _ _ _ _ _ _ _ _ (omega arith)
+      (first-trans _ _ _ _ _ _ _ _ _ (omega arith) (first-trans _ _ _ _ _ _ _ _ _ (omega arith) (λ e _. absurd (false≢true e))))
 
   pub earlier-total : (a b : ℕ) → a ≢ b → earlier learned s a b ≡ false → earlier learned s b a ≡ true
   unfolding earlier
   earlier-total a b d =
-      first-total _ _ _ _ (λ _. first-total _ _ _ _ (λ _ e. lt-ltb b a (omega (arith, ltb-false a b e))))
+      first-total _ _ _ _ (λ _. first-total _ _ _ _ (λ _. first-total _ _ _ _ (λ e _. absurd (omega arith))))
 
   -- what is taken before another has no larger cost + learned
   pub earlier-le : (a b : ℕ) → earlier learned s a b ≡ true → total learned (s .cost) a ≤ total learned (s .cost) b

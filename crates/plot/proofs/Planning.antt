@@ -12,8 +12,8 @@ use Rattle.plot.specs.Lent.{Lent, Scratch, buffersOf, scratchBuffers}
 use Rattle.plot.specs.Head.{cellsOf, cellsNamed}
 use Rattle.plot.specs.Route.{leadsFrom}
 use Rattle.plot.specs.Refusals.{tooShort, anyShort}
-use Rattle.plot.specs.Search.{total, Ended}
-use Rattle.plot.specs.Plan.{AfterPlan, answered, planCheck, searched, expandedCount, improved, concluded, planned}
+use Rattle.plot.specs.Search.{Ended}
+use Rattle.plot.specs.Plan.{AfterPlan, answered, planCheck, searched, found, lost, concluded, planned}
 use Rattle.plot.specs.declared.Head.{Head}
 use Rattle.plot.specs.declared.Reason.{Reason}
 use Rattle.plot.specs.declared.Verdict.{Verdict}
@@ -26,7 +26,6 @@ use Rattle.plot.proofs.Accepting.{room-lent, lent-room, both-on, on-bot
 use Rattle.plot.proofs.Searching.{Stopped, Emptied, Ends, stopped, emptied}
 use Rattle.plot.proofs.Beginning.{search-ends}
 use Rattle.plot.proofs.Learning.{goal-halts}
-use Rattle.plot.proofs.Trailing.{lentAfter}
 
 -- The tests -----------------------------------------------------------------------------------------------------------------------
 
@@ -71,19 +70,15 @@ pub data Planning (head : Head) (p : Lent) (s : Scratch) : AfterPlan → Type 0 
       → Planning head p s (record { answer = answered head 0 Outcome.Arrived; held = p; left = s })
   plan-none : {t : Scratch} → Held head p → planCheck head p s ≡ Accepted → head .cell ≢ head .goal
       → Emptied (head .width) (head .height) (head .cell) p (leadsFrom (head .width) (head .height) (head .goal) p) t
-      → Planning head p s (record { answer = answered head (expandedCount (cellsOf head) (t .mark)) Outcome.NoWay; held = p; left = t })
+      → Planning head p s (lost head p t)
   plan-found : {c : ℕ} {t : Scratch} → Held head p → planCheck head p s ≡ Accepted → head .cell ≢ head .goal
       → Stopped (head .width) (head .height) (head .cell) p (leadsFrom (head .width) (head .height) (head .goal) p) c t
-      → Planning head p s (record {
-        answer = answered head (expandedCount (cellsOf head) (t .mark)) (Outcome.Route (total (p .learned) (t .cost) c));
-        held = lentAfter (head .width) (head .height) p c t;
-        left = t;
-      })
+      → Planning head p s (found head p c t)
 
 module _ (head : Head) (p : Lent) (s : Scratch) where
   concluded-is : (e : Ended) → Held head p → planCheck head p s ≡ Accepted → head .cell ≢ head .goal
       → Ends (head .width) (head .height) (head .cell) p (leadsFrom (head .width) (head .height) (head .goal) p) e → Planning head p s (concluded head p e)
-  unfolding concluded improved
+  unfolding concluded
   concluded-is e a ok d (stopped x) = plan-found a ok d x
   concluded-is e a ok d (emptied x) = plan-none a ok d x
 

@@ -2,12 +2,12 @@
 -- Assumes nothing.
 use mathlib.Core.Path.{_≡_, refl, sym, _∙_}
 use mathlib.Core.Logic.{_≢_}
-use mathlib.Core.Bool.{Bool, true, false, cond, _||_}
+use mathlib.Core.Bool.{true, false}
 use mathlib.Core.List.{List, _∷_}
 use Prim.Native.Nat.{ℕ, _≤_, _<_}
 use native.Mathlib.Decide.{ℕ-discrete}
 use native.Mathlib.Omega.{arith}
-use borrow.Author.Tests.{eqb-true, eqb-false, leb-false, ne-eqb, lt-leb}
+use borrow.Author.Tests.{eq-eqb, eqb-true, eqb-false, leb-false, ne-eqb, lt-leb}
 use lib.Dec.{leb, eqb}
 use lib.ListN.{length, getD, set, length-set}
 use lib.Seq.{getD-set-same, getD-set-other}
@@ -95,15 +95,27 @@ free-after : (ground : List ℕ) (c x : ℕ) → x ≢ c → free ground x ≡ t
 free-after ground c x d e = rw (getD-set-other ground c x 1 0 d) e
 
 module _ (w h : ℕ) (link : List ℕ) (c : ℕ) where
-  -- a link that is left is the old one, and neither stands at c nor points to it
-  left-link : (x : ℕ) → linkOnceBlocked w h link c x ≢ 0 → (linkOnceBlocked w h link c x ≡ getD link x 0) × (x ≢ c) × (next w h link x ≢ c)
+  -- the link of c is cut, and each that points to c; every other stays
+  cut-own : linkOnceBlocked w h link c c ≡ 0
   unfolding linkOnceBlocked
-  left-link x = go _ _ refl refl
+  cut-own = simp (eq-eqb c c refl)
+
+  cut-pointing : (x : ℕ) → x ≢ c → next w h link x ≡ c → linkOnceBlocked w h link c x ≡ 0
+  unfolding linkOnceBlocked
+  cut-pointing x d e = simp (ne-eqb x c d, eq-eqb (next w h link x) c e)
+
+  uncut : (x : ℕ) → x ≢ c → next w h link x ≢ c → linkOnceBlocked w h link c x ≡ getD link x 0
+  unfolding linkOnceBlocked
+  uncut x d n = simp (ne-eqb x c d, ne-eqb (next w h link x) c n)
+
+  -- so a link that is left is the old one, and neither stands at c nor points to it
+  left-link : (x : ℕ) → linkOnceBlocked w h link c x ≢ 0 → (linkOnceBlocked w h link c x ≡ getD link x 0) × (x ≢ c) × (next w h link x ≢ c)
+  left-link x n = go (ℕ-discrete x c) (ℕ-discrete (next w h link x) c)
     where
-      go : (a b : Bool) → eqb x c ≡ a → eqb (next w h link x) c ≡ b → cond (a || b) 0 (getD link x 0) ≢ 0 → (cond (a || b) 0 (getD link x 0) ≡ getD link x 0) × (x ≢ c) × (next w h link x ≢ c)
-      go true b e f n = absurd (n refl)
-      go false true e f n = absurd (n refl)
-      go false false e f n = (refl, eqb-false x c e, eqb-false _ _ f)
+      go : Dec (x ≡ c) → Dec (next w h link x ≡ c) → (linkOnceBlocked w h link c x ≡ getD link x 0) × (x ≢ c) × (next w h link x ≢ c)
+      go (yes e) _ = absurd (n (rw e cut-own))
+      go (no d) (yes e) = absurd (n (cut-pointing x d e))
+      go (no d) (no e) = (uncut x d e, d, e)
 
   pub links-long : length (linksOnceBlocked w h link c) ≡ length link
   unfolding linksOnceBlocked

@@ -15,10 +15,10 @@ use lib.Seq.{getD-set-same, getD-set-other}
 use Rattle.walks.specs.Search.{Reached}
 use Rattle.walks.proofs.Routes.{Laid, laid-first, laid-next, laid-last}
 use Rattle.plot.specs.Plot.{cells, behind, allowed}
-use Rattle.plot.specs.Lent.{Lent, Scratch, lent}
+use Rattle.plot.specs.Lent.{Lent, Scratch}
 use Rattle.plot.specs.Route.{leadsFrom}
 use Rattle.plot.specs.Search.{total}
-use Rattle.plot.specs.Plan.{linked}
+use Rattle.plot.specs.Plan.{linked, improved}
 use Rattle.plot.specs.Ways.{Way, Adj}
 use Rattle.plot.proofs.Turns.{length-filled}
 use Rattle.plot.proofs.Geometry.{way-behind}
@@ -35,13 +35,6 @@ backFrom w h trail c zero = c
 backFrom w h trail c (suc k) =
     let b = backFrom w h trail c k in
     behind w h b (getD trail b 0)
-
--- what is lent after a stop at t
-abbrev pub linkAfter : (w h : ℕ) → Lent → (t : ℕ) → Scratch → List ℕ
-linkAfter w h p t s = linked w h (s .trail) (getD (s .cost) t 0) t (p .link)
-
-abbrev pub lentAfter : (w h : ℕ) → Lent → (t : ℕ) → Scratch → Lent
-lentAfter w h p t s = lent (p .ground) (learnedAfter w h p t s) (linkAfter w h p t s)
 
 -- each link that is not 0 is an allowed step
 abbrev AllLinked : (w h goal : ℕ) (ground link : List ℕ) → Type 0
@@ -132,7 +125,8 @@ module _ {w h goal cell : ℕ} (p : Lent) (r : Placed w h goal cell) (m : Room (
       rw (linked-turn w h (s .trail) k x (q .prev) link (way-behind (r .wide) (q .by)) i, j)
       (lay-is k (q .prev) (suc n) (set link (q .prev) (at (s .trail) x)) (omega (arith, q .dearer)) (lay-back x n link l q))
 
-  laying : Laying (linkAfter w h p t s) cell (at (p .learned) t + at (s .cost) t)
+  laying : Laying (improved w h p t s .link) cell (at (p .learned) t + at (s .cost) t)
+  unfolding improved
   laying = lay-is (at (s .cost) t) t (at (p .learned) t) (p .link) refl (record {
     laid = laid-first (e .holds) (e .pick) (lessons p r m f t s e) (λ x k q. route-leads w h goal p (f .zero-there) q) (route-at-stop p r m f t s e);
     long = m .links;
@@ -140,13 +134,15 @@ module _ {w h goal cell : ℕ} (p : Lent) (r : Placed w h goal cell) (m : Room (
   })
 
   -- THE ROUTE STANDS, with the length stated.
-  pub stopped-route : RouteOn w h goal (lentAfter w h p t s) cell (total (p .learned) (s .cost) t)
+  pub stopped-route : RouteOn w h goal (improved w h p t s) cell (total (p .learned) (s .cost) t)
+  unfolding improved
   stopped-route =
       let l = laying .laid in
       rw (laid-last (e .holds) (e .pick) (lessons p r m f t s e) (stopped-zero p r m f t s e) l) at (l .route)
 
   -- THE DATA ARE SOUND again.
-  pub stopped-fit : Fit w h goal cell (lentAfter w h p t s)
+  pub stopped-fit : Fit w h goal cell (improved w h p t s)
+  unfolding improved
   stopped-fit = record {
     ground = f .ground;
     cart = f .cart;
@@ -156,5 +152,6 @@ module _ {w h goal cell : ℕ} (p : Lent) (r : Placed w h goal cell) (m : Room (
     links = laying .all;
   }
 
-  pub stopped-room : Room (cells w h) (lentAfter w h p t s)
+  pub stopped-room : Room (cells w h) (improved w h p t s)
+  unfolding improved
   stopped-room = record { grounds = m .grounds; learneds = simp length-filled (m .learneds); links = laying .long }

@@ -17,3 +17,5 @@ pub mod Record
 pub mod Store
 pub mod Controller
 pub mod Ways
+pub mod Examples
+pub mod Shortcuts

@@ -57,23 +57,33 @@ linked w h trail (suc v) c link =
     elim (ltb b (cells w h)) [ true ↦ linked w h trail v b (set link b d) | false ↦ link ]
 
 -- stopped at c with this scratch
-unfoldable pub improved : Head → Lent → (c : ℕ) → Scratch → Lent
-improved head p c s =
+unfoldable pub improved : (w h : ℕ) → Lent → (c : ℕ) → Scratch → Lent
+improved w h p c s =
     lent (p .ground)
-    (filled (cellsOf head) (lesson (total (p .learned) (s .cost) c) (p .learned) (s .mark) (s .cost)) (p .learned))
-    (linked (head .width) (head .height) (s .trail) (getD (s .cost) c 0) c (p .link))
+    (filled (cells w h) (lesson (total (p .learned) (s .cost) c) (p .learned) (s .mark) (s .cost)) (p .learned))
+    (linked w h (s .trail) (getD (s .cost) c 0) c (p .link))
 
--- what is answered and left where the search ended so; it never runs out of turns
-unfoldable pub concluded : Head → Lent → Ended → AfterPlan
-concluded head p (stoppedAt c s) = record {
+-- "Stopped at s: .. Answer: route, length cost(s) + learned(s)"
+abbrev pub found : Head → Lent → (c : ℕ) → Scratch → AfterPlan
+found head p c s = record {
   answer = answered head (expandedCount (cellsOf head) (s .mark)) (Outcome.Route (total (p .learned) (s .cost) c));
-  held = improved head p c s;
+  held = improved (head .width) (head .height) p c s;
   left = s;
 }
-concluded head p (nothingWaits s) =
-    record { answer = answered head (expandedCount (cellsOf head) (s .mark)) Outcome.NoWay; held = p; left = s }
-concluded head p (outOfTurns s) =
-    record { answer = answered head (expandedCount (cellsOf head) (s .mark)) Outcome.NoWay; held = p; left = s }
+
+-- "Nothing waits: answer "no way"; learned and link stay, scratch is as the search left it"
+abbrev pub lost : Head → Lent → Scratch → AfterPlan
+lost head p s = record {
+  answer = answered head (expandedCount (cellsOf head) (s .mark)) Outcome.NoWay;
+  held = p;
+  left = s;
+}
+
+-- a search never runs out of turns
+unfoldable pub concluded : Head → Lent → Ended → AfterPlan
+concluded head p (stoppedAt c s) = found head p c s
+concluded head p (nothingWaits s) = lost head p s
+concluded head p (outOfTurns s) = lost head p s
 
 -- "if the cart is on the goal the answer is "arrived", and nothing changes, scratch included"
 unfoldable pub planned : Head → Lent → Scratch → AfterPlan

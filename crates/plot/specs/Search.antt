@@ -32,7 +32,7 @@ unfoldable pub earlier : (learned : List ℕ) → Scratch → (a b : ℕ) → Bo
 earlier learned s a b =
     smallerFirst (total learned (s .cost) a) (total learned (s .cost) b)
     (smallerFirst (getD (s .cost) b 0) (getD (s .cost) a 0)
-    (ltb a b))
+    (smallerFirst a b false))
 
 abbrev pub waits : (mark : List ℕ) (c : ℕ) → Bool
 waits mark c = eqb (getD mark c 0) 1

@@ -28,6 +28,7 @@ pub data Call : Type 0 where
   report : (cell : ℕ) → Call
   plan : Call
   move : Call
+  load : (bytes : List ℕ) → Call
 
 -- one thing to look at after the calls, with what it should be
 pub data Seen : Type 0 where
@@ -91,6 +92,9 @@ call s plan =
 call s move =
     let r = moved (s .head) (s .held) in
     record { head = r .answer .head; held = r .held; work = s .work; outcome = s .outcome; count = s .count; step = r .answer .step }
+call s (load bytes) =
+    let r = loaded bytes (s .held) in
+    record { head = r .answer .head; held = r .held; work = s .work; outcome = s .outcome; count = s .count; step = s .step }
 
 abbrev pub callAll : State → List Call → State
 callAll s [] = s
@@ -109,16 +113,28 @@ look s (move-gave n) = move-gave (verdictNumber (stepVerdict (s .step)))
 look s (save-gives n l) =
     let r = saved (s .head) (s .held) (room (recordLength (cellsOf (s .head)))) in
     save-gives (saveAnswer (r .answer .length)) (r .buffer)
-look s (load-gives n l) = load-gives (verdictNumber (loaded l (roomy 2) .answer .verdict)) l
+look s (load-gives n l) = load-gives (verdictNumber (loaded l (roomy 3) .answer .verdict)) l
 look s (length-at n l) = length-at n (recordLength n)
 
-abbrev pub asIs : Example → List Seen
+-- what is seen, computed; to unfold this is to unfold every definition that it computes with
+unfoldable pub asIs : Example → List Seen
+unfolding every tally filled gathered
+    badSides ahead allowed distance
+    groundSound learnedSound stepClose cellClose neighboursClose linkEntry linksSound sound
+    leads
+    fits check layoutCheck fresh laidOut
+    reportCheck linkOnceBlocked linksOnceBlocked blocked reported
+    begun smallerFirst earlier sooner best looked expanded run
+    planCheck searched expandedCount lesson linked improved concluded planned
+    moved
+    lowBits groundByte learnedBytes recordOf headOf groundIn learnedIn linkIn readInto same sidesFormed formed
+    saveCheck saved loadCheck loaded
 asIs e = map (look (callAll (begin e) (e .calls))) (e .seen)
 
 abbrev pub asExpected : Example → List Seen
 asExpected e = e .seen
 
-pub on : (w h start goal : ℕ) → List Call → List Seen → Example
+unfoldable pub on : (w h start goal : ℕ) → List Call → List Seen → Example
 on w h start goal calls seen = record { width = w; height = h; start = start; goal = goal; calls = calls; seen = seen }
 
 pub table : List Example
@@ -203,16 +219,5 @@ table =
 
 -- What is seen in each example is what document 01 expects.
 pub examples : map asIs table ≡ map asExpected table
-unfolding table on
-    every tally filled gathered
-    badSides ahead allowed distance
-    groundSound learnedSound stepClose cellClose neighboursClose linkEntry linksSound sound
-    leads
-    fits check layoutCheck fresh laidOut
-    reportCheck linkOnceBlocked linksOnceBlocked blocked reported
-    begun smallerFirst earlier sooner best looked expanded run
-    planCheck searched expandedCount lesson linked improved concluded planned
-    moved
-    lowBits groundByte learnedBytes recordOf headOf groundIn learnedIn linkIn readInto same sidesFormed formed
-    saveCheck saved loadCheck loaded
+unfolding table on asIs
 examples = refl
