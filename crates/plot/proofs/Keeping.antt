@@ -13,7 +13,7 @@ use Rattle.plot.specs.Lent.{Lent, Scratch}
 use Rattle.plot.specs.Head.{cellsOf}
 use Rattle.plot.specs.Route.{stands}
 use Rattle.plot.specs.Search.{total}
-use Rattle.plot.specs.Plan.{AfterPlan, improved, planCheck, expandedCount, planned}
+use Rattle.plot.specs.Plan.{AfterPlan, answered, improved, planCheck, expandedCount, planned}
 use Rattle.plot.specs.declared.Head.{Head}
 use Rattle.plot.specs.declared.Verdict.the-variants.{Accepted}
 use Rattle.plot.specs.declared.Outcome.{Outcome}
@@ -49,28 +49,24 @@ pub record PlanKeeps (head : Head) (p : Lent) (s : Scratch) (r : AfterPlan) : Ty
   pub routeless : ((L : ℕ) → r .answer .outcome ≢ Outcome.Route L) → r .held ≡ p
 
 module _ (head : Head) (p : Lent) (s : Scratch) where
+  -- where nothing changes
+  unchanged : (o : Outcome) → (planCheck head p s ≡ Accepted → head .cell ≢ head .goal → ⊥)
+      → PlanKeeps head p s (record { answer = answered head 0 o; held = p; left = s })
+  unchanged o no-search = record {
+    same-head = refl;
+    same-ground = refl;
+    rises = λ x. omega arith;
+    held = λ a. a;
+    count-free = omega arith;
+    unsearched = λ _. (refl, refl);
+    count-marks = λ ok d. absurd (no-search ok d);
+    routeless = λ _. refl;
+  }
+
   keeps : {r : AfterPlan} → Planning head p s r → PlanKeeps head p s r
   unfolding improved
-  keeps (plan-refused e) = record {
-    same-head = refl;
-    same-ground = refl;
-    rises = λ x. omega arith;
-    held = λ a. a;
-    count-free = omega arith;
-    unsearched = λ _. (refl, refl);
-    count-marks = λ ok. absurd (not-both e ok);
-    routeless = λ _. refl;
-  }
-  keeps (plan-there a ok e) = record {
-    same-head = refl;
-    same-ground = refl;
-    rises = λ x. omega arith;
-    held = λ a. a;
-    count-free = omega arith;
-    unsearched = λ _. (refl, refl);
-    count-marks = λ _ d. absurd (d e);
-    routeless = λ _. refl;
-  }
+  keeps (plan-refused e) = unchanged _ (λ ok _. not-both e ok)
+  keeps (plan-there a ok e) = unchanged _ (λ _ d. d e)
   keeps (plan-none {t = t} a ok d x) = record {
     same-head = refl;
     same-ground = refl;

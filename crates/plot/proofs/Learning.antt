@@ -7,7 +7,7 @@ use mathlib.Core.List.{List}
 use Prim.Native.Nat.{ℕ, zero, suc, _-_, _≤_, _<_}
 use native.Mathlib.Decide.{decLt}
 use native.Mathlib.Omega.{arith}
-use borrow.Author.Tests.{eqb-true, eq-eqb, ne-eqb}
+use borrow.Author.Tests.{eqb-true, ne-eqb}
 use lib.ListN.{length, getD}
 use Rattle.walks.specs.Walk.{Walk, Fewest, Consistent}
 use Rattle.walks.specs.Search.{Learns}
