@@ -71,7 +71,7 @@ scratch-trans a b = record {
 -- Layout, report, move, load ------------------------------------------------------------------------------------------------------
 
 module _ (w h start goal : ℕ) (p : Lent) where
-  laid : {r : After Changed} → Laying w h start goal p r → LentBeyond (cells w h) p (r .held)
+  laid : {r : After Changed} → Laying w h start goal p r → LentBeyond (cells w h) p (r .lists)
   unfolding fresh
   laid (layout-refused e) = lent-same (cells w h) p
   laid (layout-laid r m) = record {
@@ -80,11 +80,11 @@ module _ (w h start goal : ℕ) (p : Lent) where
     link = beyond-filled (cells w h) (cells w h) _ (p .link) (omega arith);
   }
 
-  pub layout-beyond : LentBeyond (cells w h) p (laidOut w h start goal p .held)
+  pub layout-beyond : LentBeyond (cells w h) p (laidOut w h start goal p .lists)
   layout-beyond = laid (layout-is w h start goal p)
 
 module _ (head : Head) (p : Lent) (c : ℕ) where
-  told : {r : After Changed} → Reporting head p c r → LentBeyond (cellsOf head) p (r .held)
+  told : {r : After Changed} → Reporting head p c r → LentBeyond (cellsOf head) p (r .lists)
   unfolding linksOnceBlocked
   told (report-refused e) = lent-same (cellsOf head) p
   told (report-taken a i n) = blocked-by head p c (LentBeyond (cellsOf head) p)
@@ -95,11 +95,11 @@ module _ (head : Head) (p : Lent) (c : ℕ) where
       })
       (λ _. lent-same (cellsOf head) p)
 
-  pub report-beyond : LentBeyond (cellsOf head) p (reported head p c .held)
+  pub report-beyond : LentBeyond (cellsOf head) p (reported head p c .lists)
   report-beyond = told (report-is head p c)
 
 module _ (head : Head) (p : Lent) where
-  went : {r : After Moved} → Moving head p r → LentBeyond (cellsOf head) p (r .held)
+  went : {r : After Moved} → Moving head p r → LentBeyond (cellsOf head) p (r .lists)
   went (move-refused e) = lent-same (cellsOf head) p
   went (move-there a e) = lent-same (cellsOf head) p
   went (move-lost a d t) = lent-same (cellsOf head) p
@@ -109,11 +109,11 @@ module _ (head : Head) (p : Lent) where
     link = beyond-set (cellsOf head) (p .link) (head .cell) 0 (a .placed .cart-on);
   }
 
-  pub move-beyond : LentBeyond (cellsOf head) p (moved head p .held)
+  pub move-beyond : LentBeyond (cellsOf head) p (moved head p .lists)
   move-beyond = went (move-is head p)
 
 module _ (bytes : List ℕ) (p : Lent) where
-  read : {r : After Changed} → Loading bytes p r → LentBeyond (cellsOf (headOf bytes)) p (r .held)
+  read : {r : After Changed} → Loading bytes p r → LentBeyond (cellsOf (headOf bytes)) p (r .lists)
   unfolding readInto
   read (load-refused e) = lent-same (cellsOf (headOf bytes)) p
   read (load-read e) = record {
@@ -122,5 +122,5 @@ module _ (bytes : List ℕ) (p : Lent) where
     link = beyond-filled (cellsOf (headOf bytes)) (cellsOf (headOf bytes)) _ (p .link) (omega arith);
   }
 
-  pub load-beyond : LentBeyond (cellsOf (headOf bytes)) p (loaded bytes p .held)
+  pub load-beyond : LentBeyond (cellsOf (headOf bytes)) p (loaded bytes p .lists)
   load-beyond = read (load-is bytes p)

@@ -12,7 +12,7 @@ use lib.Dec.{eqb}
 use lib.ListN.{length, getD, set}
 use lib.Seq.{getD-set-same, getD-set-other, set-comm, ext-getD}
 use Rattle.plot.specs.Plot.{cells, ahead, free}
-use Rattle.plot.specs.Lent.{Lent, lent, After}
+use Rattle.plot.specs.Lent.{Lent, lentWith, After}
 use Rattle.plot.specs.Head.{cellsOf}
 use Rattle.plot.specs.Report.{linkOnceBlocked, linksOnceBlocked, blocked, reported}
 use Rattle.plot.specs.declared.Head.{Head}
@@ -26,7 +26,7 @@ use Rattle.plot.proofs.Reporting.{pass-report, Reporting, report-refuse
 
 module _ (head : Head) (p : Lent) (c : ℕ) where
   -- the cell was free, or known blocked already
-  pub blocked-new : free (p .ground) c ≡ true → blocked head p c ≡ lent (set (p .ground) c 1) (p .learned) (linksOnceBlocked (head .width) (head .height) (p .link) c)
+  pub blocked-new : free (p .ground) c ≡ true → blocked head p c ≡ lentWith (set (p .ground) c 1) (p .learned) (linksOnceBlocked (head .width) (head .height) (p .link) c)
   unfolding blocked
   blocked-new e = rw e
 
@@ -34,7 +34,7 @@ module _ (head : Head) (p : Lent) (c : ℕ) where
   unfolding blocked
   blocked-known e = rw e
 
-  pub blocked-by : (P : Lent → Type 0) → (free (p .ground) c ≡ true → P (lent (set (p .ground) c 1) (p .learned) (linksOnceBlocked (head .width) (head .height) (p .link) c))) → (free (p .ground) c ≡ false → P p) → P (blocked head p c)
+  pub blocked-by : (P : Lent → Type 0) → (free (p .ground) c ≡ true → P (lentWith (set (p .ground) c 1) (p .learned) (linksOnceBlocked (head .width) (head .height) (p .link) c))) → (free (p .ground) c ≡ false → P p) → P (blocked head p c)
   blocked-by P new known = go _ refl
     where
       go : (b : Bool) → free (p .ground) c ≡ b → P (blocked head p c)
@@ -71,9 +71,9 @@ blocks head p c a i = blocked-by head p c (λ q. Blocks p q c)
 -- whatever report answers
 pub record ReportKeeps (head : Head) (p : Lent) (c : ℕ) (r : After Changed) : Type 0 where
   pub same-head : r .answer .head ≡ head
-  pub same-learned : r .held .learned ≡ p .learned
-  pub held : Held head p → Held head (r .held)
-  pub taken : r .answer .verdict ≡ Accepted → Blocks p (r .held) c
+  pub same-learned : r .lists .learned ≡ p .learned
+  pub held : Held head p → Held head (r .lists)
+  pub taken : r .answer .verdict ≡ Accepted → Blocks p (r .lists) c
 
 module _ (head : Head) (p : Lent) (c : ℕ) where
   keeps : {r : After Changed} → Reporting head p c r → ReportKeeps head p c r
@@ -157,7 +157,7 @@ module _ (head : Head) (p : Lent) (c d : ℕ) (a : Held head p) where
       differ n true true e f =
           rw (blocked-new head p c e, blocked-new head p d f)
           (blocked-new head _ d (same-free d c (λ q. n (sym q)) ∙ f)
-          ∙ (λ i. lent (set-comm (p .ground) c d 1 1 n i) (p .learned) (links-comm (head .width) (head .height) (p .link) (a .room .links) c d i))
+          ∙ (λ i. lentWith (set-comm (p .ground) c d 1 1 n i) (p .learned) (links-comm (head .width) (head .height) (p .link) (a .room .links) c d i))
           ∙ sym (blocked-new head _ c (same-free c d n ∙ e)))
       differ n true false e f =
           rw (blocked-new head p c e, blocked-known head p d f)
@@ -172,19 +172,19 @@ module _ (head : Head) (p : Lent) (c d : ℕ) (a : Held head p) where
 
 module _ (head : Head) (p : Lent) (c : ℕ) where
   -- what a report leaves where it is taken, and where it is not
-  report-held : {r : After Changed} → Reporting head p c r → Held head p → c < cellsOf head → c ≢ head .cell → r .held ≡ blocked head p c
+  report-held : {r : After Changed} → Reporting head p c r → Held head p → c < cellsOf head → c ≢ head .cell → r .lists ≡ blocked head p c
   report-held (report-refused e) a i n = absurd (not-both e (pass-report head p c a i n))
   report-held (report-taken _ _ _) a i n = refl
 
-  report-nothing : {r : After Changed} → Reporting head p c r → (Held head p → c < cellsOf head → c ≢ head .cell → ⊥) → r .held ≡ p
+  report-nothing : {r : After Changed} → Reporting head p c r → (Held head p → c < cellsOf head → c ≢ head .cell → ⊥) → r .lists ≡ p
   report-nothing (report-refused e) never = refl
   report-nothing (report-taken a i n) never = absurd (never a i n)
 
 -- TWO REPORTS made one right after the other leave the same lists in either order, accepted or not.
-pub reports-commute : (head : Head) (p : Lent) (c d : ℕ) → reported head (reported head p c .held) d .held ≡ reported head (reported head p d .held) c .held
+pub reports-commute : (head : Head) (p : Lent) (c d : ℕ) → reported head (reported head p c .lists) d .lists ≡ reported head (reported head p d .lists) c .lists
 reports-commute head p c d = go (report-is head p c) (report-is head p d)
   where
-    go : {r t : After Changed} → Reporting head p c r → Reporting head p d t → reported head (r .held) d .held ≡ reported head (t .held) c .held
+    go : {r t : After Changed} → Reporting head p c r → Reporting head p d t → reported head (r .lists) d .lists ≡ reported head (t .lists) c .lists
     go (report-taken a i n) (report-taken b j m) =
         report-held head (blocked head p c) d (report-is head (blocked head p c) d) (blocked-held head p c a i n) j m
         ∙ blocked-comm head p c d a

@@ -13,7 +13,7 @@ use Rattle.plot.specs.Record.{recordLength, recordOf, headOf}
 use Rattle.plot.specs.Store.{loadCheck}
 use Rattle.plot.specs.Plan.{planned}
 use Rattle.plot.specs.Move.{moved}
-use Rattle.plot.specs.Controller.{ownRoom, ownScratch, AfterC, refusedC, onRecord, stateIn, reportedC, plannedC, movedC}
+use Rattle.plot.specs.Controller.{ownRoom, ownScratch, AfterC, rewritten, onRecord, stateIn, reportedC, plannedC, movedC}
 use Rattle.plot.specs.declared.Head.{Head}
 use Rattle.plot.specs.declared.Reason.{Reason}
 use Rattle.plot.specs.declared.Verdict.{Verdict}
@@ -36,8 +36,8 @@ pub data OnRecord (bytes : List ℕ) (verdict : Verdict) (answer : ℕ) (head : 
   unread : {why : Reason} → loadCheck bytes ownRoom ≡ Refused why
       → OnRecord bytes verdict answer head p (record { answer = refusal why; bytes = bytes })
   undone : {why : Reason} → loadCheck bytes ownRoom ≡ Accepted → verdict ≡ Refused why
-      → OnRecord bytes verdict answer head p (record { answer = refusal why; bytes = bytes })
-  rewritten : loadCheck bytes ownRoom ≡ Accepted → verdict ≡ Accepted
+      → OnRecord bytes verdict answer head p (record { answer = answer; bytes = bytes })
+  done : loadCheck bytes ownRoom ≡ Accepted → verdict ≡ Accepted
       → OnRecord bytes verdict answer head p (record { answer = answer; bytes = recordOf head p })
 
 module _ (bytes : List ℕ) (verdict : Verdict) (answer : ℕ) (head : Head) (p : Lent) where
@@ -46,8 +46,11 @@ module _ (bytes : List ℕ) (verdict : Verdict) (answer : ℕ) (head : Head) (p 
   on-record = go _ _ refl refl
     where
       go : (v v′ : Verdict) → loadCheck bytes ownRoom ≡ v → verdict ≡ v′
-          → OnRecord bytes verdict answer head p (refusedC bytes v (refusedC bytes v′ (record { answer = answer; bytes = recordOf head p })))
-      go Accepted Accepted e f = rewritten e f
+          → OnRecord bytes verdict answer head p (elim v [
+            | Accepted ↦ record { answer = answer; bytes = rewritten v′ bytes (recordOf head p) }
+            | Refused why ↦ record { answer = refusal why; bytes = bytes }
+          ])
+      go Accepted Accepted e f = done e f
       go Accepted (Refused why) e f = undone e f
       go (Refused why) v′ e f = unread e
 
@@ -71,7 +74,7 @@ record-call : {bytes : List ℕ} {verdict : Verdict} {answer : ℕ} {head : Head
     → (loadCheck bytes ownRoom ≡ Accepted → verdict ≡ Accepted → Serves bytes answer head p) → RecordCall bytes after
 record-call (unread e) f = record { refused = λ _. refl; same-length = refl; stays-record = λ l. l }
 record-call (undone e g) f = record { refused = λ _. refl; same-length = refl; stays-record = λ l. l }
-record-call {bytes} {head = head} {p = p} (rewritten e g) f =
+record-call {bytes} {head = head} {p = p} (done e g) f =
     let s = f e g in
     record {
       refused = λ l. absurd (omega (arith, s .small));

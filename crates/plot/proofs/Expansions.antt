@@ -14,7 +14,7 @@ use lib.Seq.{getD-set-same, getD-set-other}
 use Rattle.walks.specs.Search.{Relaxed, lowered, kept, Expansion}
 use Rattle.walks.proofs.Relaxing.{Relaxes, relax-then, relax-as, Marked, expansion}
 use Rattle.plot.specs.Plot.{cells, ahead, allowed}
-use Rattle.plot.specs.Lent.{Scratch, scratch}
+use Rattle.plot.specs.Lent.{Scratch, scratchWith}
 use Rattle.plot.specs.Search.{reached, looked, expanded}
 use Rattle.plot.specs.Ways.{Way, Adj}
 use Rattle.plot.proofs.Views.{at, view, mark-set-same, mark-set-other}
@@ -32,7 +32,7 @@ module _ (w h : ℕ) (ground : List ℕ) (x : ℕ) (inside : x < cells w h) wher
     look-down a lt y = go (ℕ-discrete y (ahead w h x d)) (allowed-on w h ground x d a)
       where
         way : Way w h ground d x (ahead w h x d)
-        way = record { inside = inside; may = a; leads = refl }
+        way = record { inside = inside; may = a; lands = refl }
 
         go : Dec (y ≡ ahead w h x d) → ahead w h x d < cells w h → Relaxed (Way w h ground d x) (Way w h ground) x (view (cells w h) s) (view (cells w h) (reached (ahead w h x d) (at (s .cost) x + 1) d s)) y
         go (yes e) b =
@@ -41,13 +41,13 @@ module _ (w h : ℕ) (ground : List ℕ) (x : ℕ) (inside : x < cells w h) wher
             (getD-set-same (s .cost) (ahead w h x d) (at (s .cost) x + 1) 0 (omega (arith, z .costs)))
             (rw (getD-set-same (s .trail) (ahead w h x d) d 0 (omega (arith, z .trails))) way))
         go (no n) b =
-            kept (λ v. absurd (n (sym (v .leads))))
+            kept (λ v. absurd (n (sym (v .lands))))
             (mark-set-other (cells w h) (s .mark) (ahead w h x d) y 1 n)
             (getD-set-other (s .cost) (ahead w h x d) y (at (s .cost) x + 1) 0 n)
             (getD-set-other (s .trail) (ahead w h x d) y d 0 n)
 
     look-stay : (allowed w h ground x d ≡ true → at (s .cost) (ahead w h x d) ≤ at (s .cost) x + 1) → Relaxes (Way w h ground d x) (Way w h ground) x (view (cells w h) s) (view (cells w h) s)
-    look-stay f y = kept (λ v. rw (v .leads) at (f (v .may))) refl refl refl
+    look-stay f y = kept (λ v. rw (v .lands) at (f (v .may))) refl refl refl
 
     look-is : Relaxes (Way w h ground d x) (Way w h ground) x (view (cells w h) s) (view (cells w h) (looked w h ground x d s))
     unfolding looked
@@ -87,7 +87,7 @@ module _ (w h : ℕ) (ground : List ℕ) (x : ℕ) (inside : x < cells w h) wher
   -- marking, and then looking
   module _ (s : Scratch) (z : Sized (cells w h) s) where
     abbrev marked : Scratch
-    marked = scratch (set (s .mark) x 2) (s .cost) (s .trail)
+    marked = scratchWith (set (s .mark) x 2) (s .cost) (s .trail)
 
     marked-is : Marked x (view (cells w h) s) (view (cells w h) marked)
     marked-is = record {

@@ -144,13 +144,13 @@ module _ {w h : ℕ} {ground : List ℕ} where
   way-here {d} {x} a = allowed-here w h ground x d (a .may)
 
   pub way-inside : {d x y : ℕ} → Way w h ground d x y → y < cells w h
-  way-inside {d} {x} a = rw (a .leads) at (allowed-on w h ground x d (a .may))
+  way-inside {d} {x} a = rw (a .lands) at (allowed-on w h ground x d (a .may))
 
   pub way-free : {d x y : ℕ} → Way w h ground d x y → free ground y ≡ true
-  way-free {d} {x} a = rw (a .leads) at (allowed-free w h ground x d (a .may))
+  way-free {d} {x} a = rw (a .lands) at (allowed-free w h ground x d (a .may))
 
   pub way-stepped : {d x y : ℕ} → Way w h ground d x y → Stepped w h x d y
-  way-stepped {d} {x} a = rw (a .leads) at (ahead-is w h x d (allowed-on w h ground x d (a .may)))
+  way-stepped {d} {x} a = rw (a .lands) at (ahead-is w h x d (allowed-on w h ground x d (a .may)))
 
   pub way-low : {d x y : ℕ} → Way w h ground d x y → 1 ≤ d
   way-low a = stepped-low (way-stepped a)
@@ -172,7 +172,7 @@ module _ {w h : ℕ} {ground : List ℕ} where
         way = record {
           inside = way-inside (a .way);
           may = allow w h ground y (opposite (a .dir)) (way-free (a .way)) i f;
-          leads = e;
+          lands = e;
         };
       }
 

@@ -34,24 +34,24 @@ Unsearched (Outcome.Refused why) = Unit {0}
 -- whatever plan answers
 pub record PlanKeeps (head : Head) (p : Lent) (s : Scratch) (r : AfterPlan) : Type 0 where
   pub same-head : r .answer .head ≡ head
-  pub same-ground : r .held .ground ≡ p .ground
+  pub same-ground : r .lists .ground ≡ p .ground
   -- no learned value falls
-  pub rises : (x : ℕ) → getD (p .learned) x 0 ≤ getD (r .held .learned) x 0
+  pub rises : (x : ℕ) → getD (p .learned) x 0 ≤ getD (r .lists .learned) x 0
   -- data once accepted are accepted
-  pub held : Held head p → Held head (r .held)
+  pub held : Held head p → Held head (r .lists)
   -- the count is at most the number of free cells; ..
   pub count-free : r .answer .expanded ≤ tally (cellsOf head) (free (p .ground))
   -- .. without a search it is 0, and scratch stays; ..
-  pub unsearched : Unsearched (r .answer .outcome) → (r .answer .expanded ≡ 0) × (r .left ≡ s)
+  pub unsearched : Unsearched (r .answer .outcome) → (r .answer .expanded ≡ 0) × (r .scratch ≡ s)
   -- .. and after one the number of cells marked 2
-  pub count-marks : planCheck head p s ≡ Accepted → head .cell ≢ head .goal → r .answer .expanded ≡ expandedCount (cellsOf head) (r .left .mark)
+  pub count-marks : planCheck head p s ≡ Accepted → head .cell ≢ head .goal → r .answer .expanded ≡ expandedCount (cellsOf head) (r .scratch .mark)
   -- without a route what is lent stays: after "no way", on the goal, and refused
-  pub routeless : ((L : ℕ) → r .answer .outcome ≢ Outcome.Route L) → r .held ≡ p
+  pub routeless : ((L : ℕ) → r .answer .outcome ≢ Outcome.Route L) → r .lists ≡ p
 
 module _ (head : Head) (p : Lent) (s : Scratch) where
   -- where nothing changes
   unchanged : (o : Outcome) → (planCheck head p s ≡ Accepted → head .cell ≢ head .goal → ⊥)
-      → PlanKeeps head p s (record { answer = answered head 0 o; held = p; left = s })
+      → PlanKeeps head p s (record { answer = answered head 0 o; lists = p; scratch = s })
   unchanged o no-search = record {
     same-head = refl;
     same-ground = refl;
@@ -96,7 +96,7 @@ module _ (head : Head) (p : Lent) (s : Scratch) where
   plan-keeps = keeps (plan-is head p s)
 
   -- after Route L the cart's route stands, and its learned distance is L
-  stands-after : {r : AfterPlan} → Planning head p s r → (L : ℕ) → r .answer .outcome ≡ Outcome.Route L → (stands head (r .held) ≡ true) × (getD (r .held .learned) (head .cell) 0 ≡ L)
+  stands-after : {r : AfterPlan} → Planning head p s r → (L : ℕ) → r .answer .outcome ≡ Outcome.Route L → (stands head (r .lists) ≡ true) × (getD (r .lists .learned) (head .cell) 0 ≡ L)
   stands-after (plan-refused e) L q = let z : _≡_ {A = ℕ} 0 1 = cc in absurd (omega arith)
   stands-after (plan-there a ok e) L q = let z : _≡_ {A = ℕ} 0 1 = cc in absurd (omega arith)
   stands-after (plan-none a ok d x) L q = let z : _≡_ {A = ℕ} 0 1 = cc in absurd (omega arith)
@@ -106,5 +106,5 @@ module _ (head : Head) (p : Lent) (s : Scratch) where
       let z = stopped-zero p (a .placed) (a .room) (a .fit) c t x in
       (route-leads (head .width) (head .height) (head .goal) (improved (head .width) (head .height) p c t) z route, route-length z route ∙ e)
 
-  pub route-stands-after : (L : ℕ) → planned head p s .answer .outcome ≡ Outcome.Route L → (stands head (planned head p s .held) ≡ true) × (getD (planned head p s .held .learned) (head .cell) 0 ≡ L)
+  pub route-stands-after : (L : ℕ) → planned head p s .answer .outcome ≡ Outcome.Route L → (stands head (planned head p s .lists) ≡ true) × (getD (planned head p s .lists .learned) (head .cell) 0 ≡ L)
   route-stands-after L q = stands-after (plan-is head p s) L q

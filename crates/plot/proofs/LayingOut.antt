@@ -28,8 +28,8 @@ use Rattle.plot.proofs.Manhattan.{step-near, distance-below, distance-s
 module _ (w h start goal : ℕ) (p : Lent) where
   -- what layout answers and leaves, in its two cases
   pub data Laying : After Changed → Type 0 where
-    layout-refused : {why : Reason} → layoutCheck w h start goal p ≡ Refused why → Laying (record { answer = changed noHead (Refused why); held = p })
-    layout-laid : Placed w h goal start → Room (cells w h) p → Laying (record { answer = changed (headAt w h goal start) Accepted; held = fresh w h goal p })
+    layout-refused : {why : Reason} → layoutCheck w h start goal p ≡ Refused why → Laying (record { answer = changed noHead (Refused why); lists = p })
+    layout-laid : Placed w h goal start → Room (cells w h) p → Laying (record { answer = changed (headAt w h goal start) Accepted; lists = fresh w h goal p })
 
   layout-passed : layoutCheck w h start goal p ≡ Accepted → Placed w h goal start × Room (cells w h) p
   unfolding layoutCheck
@@ -43,8 +43,8 @@ module _ (w h start goal : ℕ) (p : Lent) where
   layout-is = go _ refl
     where
       go : (v : Verdict) → layoutCheck w h start goal p ≡ v → Laying (elim v [
-        | Accepted ↦ record { answer = changed (headAt w h goal start) Accepted; held = fresh w h goal p }
-        | Refused why ↦ record { answer = changed noHead (Refused why); held = p }
+        | Accepted ↦ record { answer = changed (headAt w h goal start) Accepted; lists = fresh w h goal p }
+        | Refused why ↦ record { answer = changed noHead (Refused why); lists = p }
       ])
       go Accepted e = let a = layout-passed e in layout-laid (a .0) (a .1)
       go (Refused why) e = layout-refused e
@@ -83,10 +83,10 @@ module _ (w h start goal : ℕ) (p : Lent) where
       };
     }
 
-  laid-held : {r : After Changed} → Laying r → r .answer .verdict ≡ Accepted → Held (r .answer .head) (r .held)
+  laid-held : {r : After Changed} → Laying r → r .answer .verdict ≡ Accepted → Held (r .answer .head) (r .lists)
   laid-held (layout-refused e) q = absurd (not-both refl q)
   laid-held (layout-laid r m) q = fresh-held r m
 
   -- A FRESH LAYOUT IS SOUND.
-  pub fresh-is-accepted : laidOut w h start goal p .answer .verdict ≡ Accepted → Accepts (laidOut w h start goal p .answer .head) (laidOut w h start goal p .held)
+  pub fresh-is-accepted : laidOut w h start goal p .answer .verdict ≡ Accepted → Accepts (laidOut w h start goal p .answer .head) (laidOut w h start goal p .lists)
   fresh-is-accepted q = held-accepts _ _ (laid-held layout-is q)

@@ -11,7 +11,7 @@ use lib.ListN.{length, getD, take}
 use Rattle.walks.specs.Route.{arrived, follow}
 use Rattle.plot.specs.Lent.{Lent, fronted}
 use Rattle.plot.specs.Route.{next, stands, cellsFrom, route}
-use Rattle.plot.specs.Refusals.{refuseIf, tooShort, accepts}
+use Rattle.plot.specs.Refusals.{refuseIf, tooShort, acceptance}
 use Rattle.plot.specs.Numbers.{verdictNumber}
 use Rattle.plot.specs.Listing.{AfterList, listCheck, listed, listNumber}
 use Rattle.plot.specs.declared.Head.{Head}
@@ -40,7 +40,7 @@ cells-first w h link (suc v) c = refl
 cells-last : {w h goal : ℕ} (p : Lent) {c v : ℕ} → RouteOn w h goal p c v → getD (cellsFrom w h (p .link) v c) v 0 ≡ goal
 unfolding cellsFrom
 cells-last p arrived = refl
-cells-last {w} {h} p (follow k e r) = rw (k .leads) (cells-last p r)
+cells-last {w} {h} p (follow k e r) = rw (k .lands) (cells-last p r)
 
 -- THE CALL ------------------------------------------------------------------------------------------------------------------------
 
@@ -54,7 +54,7 @@ module _ (head : Head) (p : Lent) (buffer : List ℕ) where
   list-passed : listCheck head p buffer ≡ Accepted → Held head p × (stands head p ≡ true) × (length (route head p) ≤ length buffer)
   unfolding listCheck
   list-passed e =
-      let a = both-passed (accepts head p) (refuseIf (not (stands head p)) NoRoute (refuseIf (tooShort (length (route head p)) buffer) Short Accepted)) e in
+      let a = both-passed (acceptance head p) (refuseIf (not (stands head p)) NoRoute (refuseIf (tooShort (length (route head p)) buffer) Short Accepted)) e in
       let b = passed (not (stands head p)) _ _ (a .1) in
       let c = passed (tooShort (length (route head p)) buffer) _ _ (b .1) in
       (accepts-held head p (a .0), not-false (stands head p) (b .0), ltb-false _ _ (c .0))

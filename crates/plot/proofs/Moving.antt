@@ -14,8 +14,8 @@ use Rattle.walks.proofs.Routes.{First, first-step, route-leave}
 use Rattle.plot.specs.Lent.{Lent, After}
 use Rattle.plot.specs.Head.{cellsOf}
 use Rattle.plot.specs.Route.{next, stands}
-use Rattle.plot.specs.Refusals.{accepts}
-use Rattle.plot.specs.Move.{stepped, headOnward, leftBehind, moved}
+use Rattle.plot.specs.Refusals.{acceptance}
+use Rattle.plot.specs.Move.{stepped, headOnward, listsOnward, moved}
 use Rattle.plot.specs.Ways.{Accepts, Shortest}
 use Rattle.plot.specs.declared.Head.{Head}
 use Rattle.plot.specs.declared.Reason.{Reason}
@@ -33,20 +33,20 @@ use Rattle.plot.proofs.Trailing.{linked-at}
 
 -- What move answers and leaves, in its four cases.
 pub data Moving (head : Head) (p : Lent) : After Moved → Type 0 where
-  move-refused : {why : Reason} → accepts head p ≡ Refused why → Moving head p (stepped head (Step.Refused why) p)
+  move-refused : {why : Reason} → acceptance head p ≡ Refused why → Moving head p (stepped head (Step.Refused why) p)
   move-there : Held head p → head .cell ≡ head .goal → Moving head p (stepped head Step.Arrived p)
   move-lost : Held head p → head .cell ≢ head .goal → stands head p ≡ false → Moving head p (stepped head (Step.Refused NoRoute) p)
-  move-went : Held head p → head .cell ≢ head .goal → stands head p ≡ true → Moving head p (stepped (headOnward head p) Step.Moved (leftBehind head p))
+  move-went : Held head p → head .cell ≢ head .goal → stands head p ≡ true → Moving head p (stepped (headOnward head p) Step.Moved (listsOnward head p))
 
 pub move-is : (head : Head) (p : Lent) → Moving head p (moved head p)
 unfolding moved
 move-is head p = go _ refl
   where
-    go : (v : Verdict) → accepts head p ≡ v → Moving head p (elim v [
+    go : (v : Verdict) → acceptance head p ≡ v → Moving head p (elim v [
       | Accepted ↦ elim (eqb (head .cell) (head .goal)) [
         | true ↦ stepped head Step.Arrived p
         | false ↦ elim (stands head p) [
-          | true ↦ stepped (headOnward head p) Step.Moved (leftBehind head p)
+          | true ↦ stepped (headOnward head p) Step.Moved (listsOnward head p)
           | false ↦ stepped head (Step.Refused NoRoute) p
         ]
       ]
@@ -57,7 +57,7 @@ move-is head p = go _ refl
         on : (b c : Bool) → eqb (head .cell) (head .goal) ≡ b → stands head p ≡ c → Moving head p (elim b [
           | true ↦ stepped head Step.Arrived p
           | false ↦ elim c [
-            | true ↦ stepped (headOnward head p) Step.Moved (leftBehind head p)
+            | true ↦ stepped (headOnward head p) Step.Moved (listsOnward head p)
             | false ↦ stepped head (Step.Refused NoRoute) p
           ]
         ])
@@ -79,7 +79,7 @@ module _ (head : Head) (p : Lent) (a : Held head p) (d : head .cell ≢ head .go
   step-here = first-step route-here d
 
   next-is : onward ≡ step-here .next
-  next-is = step-here .linked .leads
+  next-is = step-here .linked .lands
 
   next-way : Link (head .width) (head .height) (p .ground) (p .link) (head .cell) onward
   next-way = rw next-is (step-here .linked)
@@ -97,7 +97,7 @@ module _ (head : Head) (p : Lent) (a : Held head p) (d : head .cell ≢ head .go
           linked-at (p .link) (set (p .link) (head .cell) 0) k (a .fit .links c i (λ z. n (k ∙ z)))
 
   -- the data stay accepted
-  pub moved-held : Held (headOnward head p) (leftBehind head p)
+  pub moved-held : Held (headOnward head p) (listsOnward head p)
   moved-held = record {
     placed = record {
       sides = a .placed .sides;
@@ -119,18 +119,18 @@ module _ (head : Head) (p : Lent) (a : Held head p) (d : head .cell ≢ head .go
   }
 
   -- the rest of the route stands
-  moved-route : RouteOn (head .width) (head .height) (head .goal) (leftBehind head p) onward (step-here .left)
+  moved-route : RouteOn (head .width) (head .height) (head .goal) (listsOnward head p) onward (step-here .left)
   moved-route = rw next-is (route-leave step-here (λ z w n k. rw (getD-set-other (p .link) (head .cell) z 0 0 n) k))
 
-  pub moved-stands : stands (headOnward head p) (leftBehind head p) ≡ true
-  moved-stands = route-leads (head .width) (head .height) (head .goal) (leftBehind head p) (a .fit .zero-there) moved-route
+  pub moved-stands : stands (headOnward head p) (listsOnward head p) ≡ true
+  moved-stands = route-leads (head .width) (head .height) (head .goal) (listsOnward head p) (a .fit .zero-there) moved-route
 
   -- the fewest steps from here are the learned value, and one less from the next cell
   pub fewest-here : Shortest head p (head .cell) (at (p .learned) (head .cell))
   fewest-here = route-fewest p (a .fit) route-here
 
   pub fewest-next : Shortest head p onward (at (p .learned) onward)
-  fewest-next = route-fewest (leftBehind head p) (moved-held .fit) (leads-stands (leftBehind head p) (moved-held .fit) _ (moved-held .placed .cart-on) moved-stands)
+  fewest-next = route-fewest (listsOnward head p) (moved-held .fit) (leads-stands (listsOnward head p) (moved-held .fit) _ (moved-held .placed .cart-on) moved-stands)
 
 -- THE CALL ------------------------------------------------------------------------------------------------------------------------
 
@@ -139,14 +139,14 @@ pub record Nearer (head : Head) (p : Lent) (r : After Moved) : Type 0 where
   pub left : ℕ
   pub before : Shortest head p (head .cell) (left + 1)
   pub after : Shortest head p (r .answer .head .cell) left
-  pub onward : stands (r .answer .head) (r .held) ≡ true
+  pub onward : stands (r .answer .head) (r .lists) ≡ true
 
 -- whatever move answers
 pub record MoveKeeps (head : Head) (p : Lent) (r : After Moved) : Type 0 where
   pub same-plot : (r .answer .head .width ≡ head .width) × (r .answer .head .height ≡ head .height) × (r .answer .head .goal ≡ head .goal)
-  pub same-ground : r .held .ground ≡ p .ground
-  pub same-learned : r .held .learned ≡ p .learned
-  pub held : Held head p → Held (r .answer .head) (r .held)
+  pub same-ground : r .lists .ground ≡ p .ground
+  pub same-learned : r .lists .learned ≡ p .learned
+  pub held : Held head p → Held (r .answer .head) (r .lists)
 
 module _ (head : Head) (p : Lent) where
   nearer : {r : After Moved} → Moving head p r → r .answer .step ≡ Step.Moved → Nearer head p r

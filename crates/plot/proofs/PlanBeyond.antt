@@ -9,7 +9,7 @@ use borrow.Author.Tests.{ltb-true}
 use lib.Dec.{ltb, eqb}
 use lib.ListN.{getD, set}
 use Rattle.plot.specs.Plot.{cells, ahead, behind, allowed}
-use Rattle.plot.specs.Lent.{Lent, Scratch, scratch}
+use Rattle.plot.specs.Lent.{Lent, Scratch, scratchWith}
 use Rattle.plot.specs.Head.{cellsOf}
 use Rattle.plot.specs.Search.{begun, reached, looked, expanded, Ended, stoppedAt, nothingWaits, outOfTurns, first, run}
 use Rattle.plot.specs.Plan.{AfterPlan, answered, planCheck, searched, linked, improved, concluded, planned}
@@ -45,7 +45,7 @@ module _ (w h : ℕ) (ground : List ℕ) where
   expand-beyond c s i =
       scratch-trans marked (scratch-trans (look-beyond c 1 _) (scratch-trans (look-beyond c 2 _) (scratch-trans (look-beyond c 3 _) (look-beyond c 4 _))))
     where
-      marked : ScratchBeyond (cells w h) s (scratch (set (s .mark) c 2) (s .cost) (s .trail))
+      marked : ScratchBeyond (cells w h) s (scratchWith (set (s .mark) c 2) (s .cost) (s .trail))
       marked = record {
         mark = beyond-set (cells w h) (s .mark) c 2 i;
         cost = beyond-same (cells w h) (s .cost);
@@ -92,11 +92,11 @@ begun-beyond n cell s i = record {
 
 -- what is lent, and scratch, after a plan
 pub record PlanBeyond (head : Head) (p : Lent) (s : Scratch) (r : AfterPlan) : Type 0 where
-  pub held : LentBeyond (cellsOf head) p (r .held)
-  pub left : ScratchBeyond (cellsOf head) s (r .left)
+  pub held : LentBeyond (cellsOf head) p (r .lists)
+  pub left : ScratchBeyond (cellsOf head) s (r .scratch)
 
 module _ (head : Head) (p : Lent) (s : Scratch) where
-  nothing : (r : AfterPlan) → r .held ≡ p → r .left ≡ s → PlanBeyond head p s r
+  nothing : (r : AfterPlan) → r .lists ≡ p → r .scratch ≡ s → PlanBeyond head p s r
   nothing r e f = record { held = rw e (lent-same (cellsOf head) p); left = rw f (scratch-same (cellsOf head) s) }
 
   concluded-beyond : (e : Ended) → ScratchBeyond (cellsOf head) s (scratchOf e) → PlanBeyond head p s (concluded head p e)
@@ -124,15 +124,15 @@ module _ (head : Head) (p : Lent) (s : Scratch) where
 
       go : (v : Verdict) → planCheck head p s ≡ v → PlanBeyond head p s (elim v [
         | Accepted ↦ elim (eqb (head .cell) (head .goal)) [
-          | true ↦ record { answer = answered head 0 Outcome.Arrived; held = p; left = s }
+          | true ↦ record { answer = answered head 0 Outcome.Arrived; lists = p; scratch = s }
           | false ↦ concluded head p (searched head p s)
         ]
-        | Refused why ↦ record { answer = answered head 0 (Outcome.Refused why); held = p; left = s }
+        | Refused why ↦ record { answer = answered head 0 (Outcome.Refused why); lists = p; scratch = s }
       ])
       go Accepted e = on (eqb (head .cell) (head .goal))
         where
           on : (b : Bool) → PlanBeyond head p s (elim b [
-            | true ↦ record { answer = answered head 0 Outcome.Arrived; held = p; left = s }
+            | true ↦ record { answer = answered head 0 Outcome.Arrived; lists = p; scratch = s }
             | false ↦ concluded head p (searched head p s)
           ])
           on true = nothing _ refl refl

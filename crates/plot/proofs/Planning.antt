@@ -65,9 +65,9 @@ module _ (head : Head) (p : Lent) (s : Scratch) where
 -- what plan answers and leaves
 pub data Planning (head : Head) (p : Lent) (s : Scratch) : AfterPlan → Type 0 where
   plan-refused : {why : Reason} → planCheck head p s ≡ Refused why
-      → Planning head p s (record { answer = answered head 0 (Outcome.Refused why); held = p; left = s })
+      → Planning head p s (record { answer = answered head 0 (Outcome.Refused why); lists = p; scratch = s })
   plan-there : Held head p → planCheck head p s ≡ Accepted → head .cell ≡ head .goal
-      → Planning head p s (record { answer = answered head 0 Outcome.Arrived; held = p; left = s })
+      → Planning head p s (record { answer = answered head 0 Outcome.Arrived; lists = p; scratch = s })
   plan-none : {t : Scratch} → Held head p → planCheck head p s ≡ Accepted → head .cell ≢ head .goal
       → Emptied (head .width) (head .height) (head .cell) p (leadsFrom (head .width) (head .height) (head .goal) p) t
       → Planning head p s (lost head p t)
@@ -88,10 +88,10 @@ module _ (head : Head) (p : Lent) (s : Scratch) where
     where
       go : (v : Verdict) → planCheck head p s ≡ v → Planning head p s (elim v [
         | Accepted ↦ elim (eqb (head .cell) (head .goal)) [
-          | true ↦ record { answer = answered head 0 Outcome.Arrived; held = p; left = s }
+          | true ↦ record { answer = answered head 0 Outcome.Arrived; lists = p; scratch = s }
           | false ↦ concluded head p (searched head p s)
         ]
-        | Refused why ↦ record { answer = answered head 0 (Outcome.Refused why); held = p; left = s }
+        | Refused why ↦ record { answer = answered head 0 (Outcome.Refused why); lists = p; scratch = s }
       ])
       go Accepted e = on _ refl
         where
@@ -99,7 +99,7 @@ module _ (head : Head) (p : Lent) (s : Scratch) where
           a = plan-passed head p s e
 
           on : (b : Bool) → eqb (head .cell) (head .goal) ≡ b → Planning head p s (elim b [
-            | true ↦ record { answer = answered head 0 Outcome.Arrived; held = p; left = s }
+            | true ↦ record { answer = answered head 0 Outcome.Arrived; lists = p; scratch = s }
             | false ↦ concluded head p (searched head p s)
           ])
           on true q = plan-there (a .0) e (eqb-true _ _ q)

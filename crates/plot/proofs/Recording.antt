@@ -184,10 +184,10 @@ module _ (head : Head) (p : Lent) (a : Held head p) (q : Lent) (r : Room (cellsO
       passed-load (recordOf head p) q (record { sides = f .0; form = f .1; room = rw (head-read head p) r; held = rw (head-read head p) back-held })
 
   -- "A saved record reads back as the same state": the head ..
-  pub loaded-is : loaded (recordOf head p) q ≡ record { answer = changed head Accepted; held = readInto (cellsOf head) (recordOf head p) q }
+  pub loaded-is : loaded (recordOf head p) q ≡ record { answer = changed head Accepted; lists = readInto (cellsOf head) (recordOf head p) q }
   unfolding loaded
   loaded-is = rw (load-accepted, loaded, head-read head p)
 
   -- .. and the entries.
-  pub loaded-same : SameEntries (cellsOf head) p (loaded (recordOf head p) q .held)
+  pub loaded-same : SameEntries (cellsOf head) p (loaded (recordOf head p) q .lists)
   loaded-same = rw loaded-is (entries-back head p a q r)

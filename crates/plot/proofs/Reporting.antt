@@ -12,7 +12,7 @@ use lib.Dec.{leb, eqb}
 use lib.ListN.{length, getD, set, length-set}
 use lib.Seq.{getD-set-same, getD-set-other}
 use Rattle.plot.specs.Plot.{cells, free, allowed}
-use Rattle.plot.specs.Lent.{Lent, lent, buffersOf, After}
+use Rattle.plot.specs.Lent.{Lent, lentWith, buffersOf, After}
 use Rattle.plot.specs.Head.{cellsOf, cellsNamed}
 use Rattle.plot.specs.Route.{next}
 use Rattle.plot.specs.Refusals.{refuseIf, check, anyOutside, changed}
@@ -66,17 +66,17 @@ module _ (head : Head) (p : Lent) (c : ℕ) where
 
 -- what report answers and leaves, in its two cases
 pub data Reporting (head : Head) (p : Lent) (c : ℕ) : After Changed → Type 0 where
-  report-refused : {why : Reason} → reportCheck head p c ≡ Refused why → Reporting head p c (record { answer = changed head (Refused why); held = p })
+  report-refused : {why : Reason} → reportCheck head p c ≡ Refused why → Reporting head p c (record { answer = changed head (Refused why); lists = p })
   report-taken : Held head p → c < cellsOf head → c ≢ head .cell
-      → Reporting head p c (record { answer = changed head Accepted; held = blocked head p c })
+      → Reporting head p c (record { answer = changed head Accepted; lists = blocked head p c })
 
 pub report-is : (head : Head) (p : Lent) (c : ℕ) → Reporting head p c (reported head p c)
 unfolding reported
 report-is head p c = go _ refl
   where
     go : (v : Verdict) → reportCheck head p c ≡ v → Reporting head p c (elim v [
-      | Accepted ↦ record { answer = changed head Accepted; held = blocked head p c }
-      | Refused why ↦ record { answer = changed head (Refused why); held = p }
+      | Accepted ↦ record { answer = changed head Accepted; lists = blocked head p c }
+      | Refused why ↦ record { answer = changed head (Refused why); lists = p }
     ])
     go Accepted e = let a = report-passed head p c e in report-taken (a .0) (a .1) (a .2)
     go (Refused why) e = report-refused e
@@ -134,7 +134,7 @@ module _ (w h : ℕ) (link : List ℕ) (c : ℕ) where
 module _ {w h goal cell : ℕ} (p : Lent) (r : Placed w h goal cell) (m : Room (cells w h) p) (f : Fit w h goal cell p) (c : ℕ) (on : c < cells w h) (other : c ≢ cell) where
   -- once c, which was free, is blocked
   abbrev after : Lent
-  after = lent (set (p .ground) c 1) (p .learned) (linksOnceBlocked w h (p .link) c)
+  after = lentWith (set (p .ground) c 1) (p .learned) (linksOnceBlocked w h (p .link) c)
 
   allowed-before : (x d : ℕ) → allowed w h (set (p .ground) c 1) x d ≡ true → allowed w h (p .ground) x d ≡ true
   allowed-before x d e =

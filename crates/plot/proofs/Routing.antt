@@ -29,7 +29,7 @@ RouteOn w h goal p x n = Route (Link w h (p .ground) (p .link)) (at (p .learned)
 
 -- a link that is not 0 is an allowed step
 fit-link : {w h goal cell : ℕ} {p : Lent} → Fit w h goal cell p → (c : ℕ) → c < cells w h → getD (p .link) c 0 ≢ 0 → Link w h (p .ground) (p .link) c (next w h (p .link) c)
-fit-link f c i n = record { inside = i; may = f .links c i n .may; leads = refl }
+fit-link f c i n = record { inside = i; may = f .links c i n .may; lands = refl }
 
 -- one turn of the test
 leads-on : (w h goal : ℕ) (learned link : List ℕ) (v c : ℕ) → leads w h goal learned link (suc v) c ≡ true → c ≢ goal → (next w h link c < cells w h) × (getD learned (next w h link c) 0 ≡ v) × (leads w h goal learned link v (next w h link c) ≡ true)
@@ -90,7 +90,7 @@ module _ {w h goal cell : ℕ} (p : Lent) (f : Fit w h goal cell p) where
 route-some : (w h goal : ℕ) (p : Lent) → getD (p .learned) goal 0 ≡ 0 → {c n : ℕ} → RouteOn w h goal p c n → leads w h goal (p .learned) (p .link) n c ≡ true
 route-some w h goal p z arrived = leads-goal w h goal (p .learned) (p .link) 0
 route-some w h goal p z (follow {x = x} {y = y} {n = n} k e r) =
-    on-leads w h goal (p .learned) (p .link) n x (rw (k .leads) (way-inside k)) (rw (k .leads) (route-length z r)) (rw (k .leads) (route-some w h goal p z r))
+    on-leads w h goal (p .learned) (p .link) n x (rw (k .lands) (way-inside k)) (rw (k .lands) (route-length z r)) (rw (k .lands) (route-some w h goal p z r))
 
 pub route-leads : (w h goal : ℕ) (p : Lent) → getD (p .learned) goal 0 ≡ 0 → {c n : ℕ} → RouteOn w h goal p c n → leadsFrom w h goal p c ≡ true
 route-leads w h goal p z r = rw (route-length z r) (route-some w h goal p z r)

@@ -7,7 +7,7 @@ use borrow.Author.Tests.{ltb-false}
 use lib.ListN.{length, getD, take}
 use Rattle.plot.specs.Lent.{Lent, After, fronted}
 use Rattle.plot.specs.Head.{noHead, cellsOf}
-use Rattle.plot.specs.Refusals.{tooShort, accepts, changed}
+use Rattle.plot.specs.Refusals.{tooShort, acceptance, changed}
 use Rattle.plot.specs.Record.{recordLength, recordOf, headOf, readInto}
 use Rattle.plot.specs.Store.{AfterSave, savedAs, saveCheck, saved, loadCheck, loaded}
 use Rattle.plot.specs.declared.Head.{Head}
@@ -43,7 +43,7 @@ module _ (head : Head) (p : Lent) (buffer : List ℕ) where
   pub save-check : saveCheck head p buffer ≡ Accepted → Held head p × (recordLength (cellsOf head) ≤ length buffer)
   unfolding saveCheck
   save-check e =
-      let t = both-passed (accepts head p) _ e in
+      let t = both-passed (acceptance head p) _ e in
       (accepts-held head p (t .0), ltb-false _ _ (passed (tooShort (recordLength (cellsOf head)) buffer) _ _ (t .1) .0))
 
   stored : Held head p → recordLength (cellsOf head) ≤ length buffer → Stored head p buffer (fronted (recordOf head p) buffer)
@@ -73,7 +73,7 @@ module _ (head : Head) (p : Lent) (buffer : List ℕ) where
 -- What was saved reads back: load takes the record's bytes, and gives the head and the entries.
 pub saved-reads : {head : Head} {p : Lent} {before after : List ℕ} → Held head p → Stored head p before after → (q : Lent) → Room (cellsOf head) q
     → let r = loaded (take (recordLength (cellsOf head)) after) q in
-    (r .answer ≡ changed head Accepted) × SameEntries (cellsOf head) p (r .held)
+    (r .answer ≡ changed head Accepted) × SameEntries (cellsOf head) p (r .lists)
 saved-reads {head} {p} a s q r =
     rw (s .front) (rw (loaded-is head p a q r), loaded-same head p a q r)
 
@@ -82,17 +82,17 @@ saved-reads {head} {p} a s q r =
 -- What load answers and leaves, in its two cases.
 pub data Loading (bytes : List ℕ) (q : Lent) : After Changed → Type 0 where
   load-refused : {why : Reason} → loadCheck bytes q ≡ Refused why
-      → Loading bytes q (record { answer = changed noHead (Refused why); held = q })
+      → Loading bytes q (record { answer = changed noHead (Refused why); lists = q })
   load-read : loadCheck bytes q ≡ Accepted
-      → Loading bytes q (record { answer = changed (headOf bytes) Accepted; held = readInto (cellsOf (headOf bytes)) bytes q })
+      → Loading bytes q (record { answer = changed (headOf bytes) Accepted; lists = readInto (cellsOf (headOf bytes)) bytes q })
 
 pub load-is : (bytes : List ℕ) (q : Lent) → Loading bytes q (loaded bytes q)
 unfolding loaded
 load-is bytes q = go _ refl
   where
     go : (v : Verdict) → loadCheck bytes q ≡ v → Loading bytes q (elim v [
-      | Accepted ↦ record { answer = changed (headOf bytes) Accepted; held = readInto (cellsOf (headOf bytes)) bytes q }
-      | Refused why ↦ record { answer = changed noHead (Refused why); held = q }
+      | Accepted ↦ record { answer = changed (headOf bytes) Accepted; lists = readInto (cellsOf (headOf bytes)) bytes q }
+      | Refused why ↦ record { answer = changed noHead (Refused why); lists = q }
     ])
     go Accepted e = load-read e
     go (Refused why) e = load-refused e

@@ -4,7 +4,7 @@ use mathlib.Core.List.{List}
 use lib.ListN.{replicate}
 use Rattle.plot.specs.Numbers.{outcomeVerdict, stepVerdict, refusal, changedAnswer, planAnswer, moveAnswer}
 use Rattle.plot.specs.Plot.{maxCells}
-use Rattle.plot.specs.Lent.{Lent, Scratch, scratch}
+use Rattle.plot.specs.Lent.{Lent, Scratch, scratchWith}
 use Rattle.plot.specs.Head.{cellsOf}
 use Rattle.plot.specs.Record.{recordOf, headOf, readInto, roomFor}
 use Rattle.plot.specs.Store.{loadCheck}
@@ -20,23 +20,25 @@ abbrev pub ownRoom : Lent
 ownRoom = roomFor maxCells
 
 abbrev pub ownScratch : Scratch
-ownScratch = scratch (replicate maxCells 0) (replicate maxCells 0) (replicate maxCells 0)
+ownScratch = scratchWith (replicate maxCells 0) (replicate maxCells 0) (replicate maxCells 0)
 
 -- the answer, and the caller's bytes afterwards
 pub record AfterC : Type 0 where
   pub answer : ℕ
   pub bytes : List ℕ
 
-abbrev pub refusedC : (bytes : List ℕ) → Verdict → AfterC → AfterC
-refusedC bytes Accepted done = done
-refusedC bytes (Refused why) done = record { answer = refusal why; bytes = bytes }
+-- the record is "rewritten there", and a refusal leaves the bytes
+abbrev pub rewritten : Verdict → (before after : List ℕ) → List ℕ
+rewritten Accepted before after = after
+rewritten (Refused why) before after = before
 
--- "The checks are load's in load's order, then the call's own": a refusal leaves the bytes, and else the record is
--- "rewritten there"
+-- "The checks are load's in load's order, then the call's own": the call answers, and leaves this state
 unfoldable pub onRecord : (bytes : List ℕ) → Verdict → (answer : ℕ) → Head → Lent → AfterC
 onRecord bytes verdict answer head p =
-    refusedC bytes (loadCheck bytes ownRoom)
-    (refusedC bytes verdict (record { answer = answer; bytes = recordOf head p }))
+    elim (loadCheck bytes ownRoom) [
+      | Accepted ↦ record { answer = answer; bytes = rewritten verdict bytes (recordOf head p) }
+      | Refused why ↦ record { answer = refusal why; bytes = bytes }
+    ]
 
 -- the state that the bytes hold
 abbrev pub stateIn : List ℕ → Lent
@@ -45,14 +47,14 @@ stateIn bytes = readInto (cellsOf (headOf bytes)) bytes ownRoom
 unfoldable pub reportedC : (bytes : List ℕ) (c : ℕ) → AfterC
 reportedC bytes c =
     let r = reported (headOf bytes) (stateIn bytes) c in
-    onRecord bytes (r .answer .verdict) (changedAnswer (r .answer .verdict)) (r .answer .head) (r .held)
+    onRecord bytes (r .answer .verdict) (changedAnswer (r .answer .verdict)) (r .answer .head) (r .lists)
 
 unfoldable pub plannedC : (bytes : List ℕ) → AfterC
 plannedC bytes =
     let r = planned (headOf bytes) (stateIn bytes) ownScratch in
-    onRecord bytes (outcomeVerdict (r .answer .outcome)) (planAnswer (r .answer .outcome)) (r .answer .head) (r .held)
+    onRecord bytes (outcomeVerdict (r .answer .outcome)) (planAnswer (r .answer .outcome)) (r .answer .head) (r .lists)
 
 unfoldable pub movedC : (bytes : List ℕ) → AfterC
 movedC bytes =
     let r = moved (headOf bytes) (stateIn bytes) in
-    onRecord bytes (stepVerdict (r .answer .step)) (moveAnswer (r .answer .head .cell) (r .answer .step)) (r .answer .head) (r .held)
+    onRecord bytes (stepVerdict (r .answer .step)) (moveAnswer (r .answer .head .cell) (r .answer .step)) (r .answer .head) (r .lists)

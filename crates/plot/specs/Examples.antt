@@ -7,7 +7,7 @@ use Prim.Native.Nat.{ℕ, _+_, _*_}
 use lib.ListN.{replicate}
 use Rattle.plot.specs.Turns.{every, tally, filled, gathered}
 use Rattle.plot.specs.Plot.{badSides, ahead, allowed, distance}
-use Rattle.plot.specs.Lent.{Lent, Scratch, lent, scratch}
+use Rattle.plot.specs.Lent.{Lent, Scratch, lentWith, scratchWith}
 use Rattle.plot.specs.Head.{cellsOf}
 use Rattle.plot.specs.Sound.{groundSound, learnedSound, stepClose, cellClose, neighboursClose, linkEntry, linksSound, sound}
 use Rattle.plot.specs.Route.{leads}
@@ -57,7 +57,7 @@ pub record Example : Type 0 where
 -- a state between calls, with the last answers
 pub record State : Type 0 where
   pub head : Head
-  pub held : Lent
+  pub lists : Lent
   pub work : Scratch
   pub outcome : Outcome
   pub count : ℕ
@@ -67,7 +67,7 @@ abbrev pub room : ℕ → List ℕ
 room n = replicate (n + 1) 9
 
 abbrev pub roomy : ℕ → Lent
-roomy n = lent (room n) (room n) (room n)
+roomy n = lentWith (room n) (room n) (room n)
 
 abbrev pub begin : Example → State
 begin e =
@@ -75,8 +75,8 @@ begin e =
     let r = laidOut (e .width) (e .height) (e .start) (e .goal) (roomy n) in
     record {
       head = r .answer .head;
-      held = r .held;
-      work = scratch (room n) (room n) (room n);
+      lists = r .lists;
+      work = scratchWith (room n) (room n) (room n);
       outcome = Outcome.NoWay;
       count = 0;
       step = Step.Moved;
@@ -84,17 +84,17 @@ begin e =
 
 abbrev pub call : State → Call → State
 call s (report c) =
-    let r = reported (s .head) (s .held) c in
-    record { head = r .answer .head; held = r .held; work = s .work; outcome = s .outcome; count = s .count; step = s .step }
+    let r = reported (s .head) (s .lists) c in
+    record { head = r .answer .head; lists = r .lists; work = s .work; outcome = s .outcome; count = s .count; step = s .step }
 call s plan =
-    let r = planned (s .head) (s .held) (s .work) in
-    record { head = r .answer .head; held = r .held; work = r .left; outcome = r .answer .outcome; count = r .answer .expanded; step = s .step }
+    let r = planned (s .head) (s .lists) (s .work) in
+    record { head = r .answer .head; lists = r .lists; work = r .scratch; outcome = r .answer .outcome; count = r .answer .expanded; step = s .step }
 call s move =
-    let r = moved (s .head) (s .held) in
-    record { head = r .answer .head; held = r .held; work = s .work; outcome = s .outcome; count = s .count; step = r .answer .step }
+    let r = moved (s .head) (s .lists) in
+    record { head = r .answer .head; lists = r .lists; work = s .work; outcome = s .outcome; count = s .count; step = r .answer .step }
 call s (load bytes) =
-    let r = loaded bytes (s .held) in
-    record { head = r .answer .head; held = r .held; work = s .work; outcome = s .outcome; count = s .count; step = s .step }
+    let r = loaded bytes (s .lists) in
+    record { head = r .answer .head; lists = r .lists; work = s .work; outcome = s .outcome; count = s .count; step = s .step }
 
 abbrev pub callAll : State → List Call → State
 callAll s [] = s
@@ -103,15 +103,15 @@ callAll s (c ∷ cs) = callAll (call s c) cs
 -- the same thing, as it is
 abbrev pub look : State → Seen → Seen
 look s (cart-on c) = cart-on (s .head .cell)
-look s (learned-is l) = learned-is (s .held .learned)
-look s (links-are l) = links-are (s .held .link)
+look s (learned-is l) = learned-is (s .lists .learned)
+look s (links-are l) = links-are (s .lists .link)
 look s (marks-are l) = marks-are (s .work .mark)
 look s (costs-are l) = costs-are (s .work .cost)
 look s (trail-is l) = trail-is (s .work .trail)
 look s (plan-gave o n) = plan-gave (s .outcome) (s .count)
 look s (move-gave n) = move-gave (verdictNumber (stepVerdict (s .step)))
 look s (save-gives n l) =
-    let r = saved (s .head) (s .held) (room (recordLength (cellsOf (s .head)))) in
+    let r = saved (s .head) (s .lists) (room (recordLength (cellsOf (s .head)))) in
     save-gives (saveAnswer (r .answer .length)) (r .buffer)
 look s (load-gives n l) = load-gives (verdictNumber (loaded l (roomy 3) .answer .verdict)) l
 look s (length-at n l) = length-at n (recordLength n)

@@ -3,13 +3,14 @@ use Prim.Native.Nat.{ℕ}
 use mathlib.Core.List.{[], _∷_}
 use Rattle.plot.specs.Turns.{filled, each}
 use Rattle.plot.specs.Plot.{cells, distance}
-use Rattle.plot.specs.Lent.{Lent, lent, buffersOf, After}
+use Rattle.plot.specs.Lent.{Lent, lentWith, buffersOf, After}
 use Rattle.plot.specs.Head.{headAt, noHead}
 use Rattle.plot.specs.Refusals.{fits, changed}
 use Rattle.plot.specs.declared.Verdict.{Verdict}
 use Rattle.plot.specs.declared.Verdict.the-variants.{Accepted, Refused}
 use Rattle.plot.specs.declared.Changed.{Changed}
 
+-- "Start may equal goal": no test asks
 unfoldable pub layoutCheck : (w h start goal : ℕ) → Lent → Verdict
 layoutCheck w h start goal p = fits w h (buffersOf p) (goal ∷ start ∷ [])
 
@@ -17,11 +18,11 @@ layoutCheck w h start goal p = fits w h (buffersOf p) (goal ∷ start ∷ [])
 unfoldable pub fresh : (w h goal : ℕ) → Lent → Lent
 fresh w h goal p =
     let n = cells w h in
-    lent (filled n (each 0) (p .ground)) (filled n (distance w goal) (p .learned)) (filled n (each 0) (p .link))
+    lentWith (filled n (each 0) (p .ground)) (filled n (distance w goal) (p .learned)) (filled n (each 0) (p .link))
 
 unfoldable pub laidOut : (w h start goal : ℕ) → Lent → After Changed
 laidOut w h start goal p =
     elim (layoutCheck w h start goal p) [
-      | Accepted ↦ record { answer = changed (headAt w h goal start) Accepted; held = fresh w h goal p }
-      | Refused why ↦ record { answer = changed noHead (Refused why); held = p }
+      | Accepted ↦ record { answer = changed (headAt w h goal start) Accepted; lists = fresh w h goal p }
+      | Refused why ↦ record { answer = changed noHead (Refused why); lists = p }
     ]

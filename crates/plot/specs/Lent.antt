@@ -20,11 +20,11 @@ pub record Scratch : Type 0 where
   -- "the direction of the step by which the cell was reached; 0 for the cart's cell and for unseen cells"
   pub trail : List ℕ
 
-abbrev pub lent : (ground learned link : List ℕ) → Lent
-lent ground learned link = record { ground = ground; learned = learned; link = link }
+abbrev pub lentWith : (ground learned link : List ℕ) → Lent
+lentWith ground learned link = record { ground = ground; learned = learned; link = link }
 
-abbrev pub scratch : (mark cost trail : List ℕ) → Scratch
-scratch mark cost trail = record { mark = mark; cost = cost; trail = trail }
+abbrev pub scratchWith : (mark cost trail : List ℕ) → Scratch
+scratchWith mark cost trail = record { mark = mark; cost = cost; trail = trail }
 
 -- the buffers, one by one
 abbrev pub buffersOf : Lent → List (List ℕ)
@@ -40,4 +40,4 @@ fronted front buffer = front ++ drop (length front) buffer
 -- an answer, and what is lent afterwards
 pub record After (A : Type 0) : Type 0 where
   pub answer : A
-  pub held : Lent
+  pub lists : Lent

@@ -5,7 +5,7 @@ use mathlib.Core.List.{List, []}
 use lib.ListN.{length}
 use Rattle.plot.specs.Lent.{Lent, fronted}
 use Rattle.plot.specs.Route.{stands, route}
-use Rattle.plot.specs.Refusals.{refuseIf, andThen, tooShort, accepts}
+use Rattle.plot.specs.Refusals.{refuseIf, andThen, tooShort, acceptance}
 use Rattle.plot.specs.Numbers.{verdictNumber}
 use Rattle.plot.specs.declared.Head.{Head}
 use Rattle.plot.specs.declared.Reason.the-variants.{Short, NoRoute}
@@ -20,7 +20,7 @@ pub record AfterList : Type 0 where
 -- "the list buffer's 2 comes after 6"
 unfoldable pub listCheck : Head → Lent → (buffer : List ℕ) → Verdict
 listCheck head p buffer =
-    andThen (accepts head p)
+    andThen (acceptance head p)
     (refuseIf (not (stands head p)) NoRoute
     (refuseIf (tooShort (length (route head p)) buffer) Short Accepted))
 

@@ -2,10 +2,10 @@
 use mathlib.Core.Bool.{true, false}
 use lib.ListN.{set}
 use lib.Dec.{eqb}
-use Rattle.plot.specs.Lent.{Lent, lent, After}
+use Rattle.plot.specs.Lent.{Lent, lentWith, After}
 use Rattle.plot.specs.Head.{movedTo}
 use Rattle.plot.specs.Route.{next, stands}
-use Rattle.plot.specs.Refusals.{accepts}
+use Rattle.plot.specs.Refusals.{acceptance}
 use Rattle.plot.specs.declared.Head.{Head}
 use Rattle.plot.specs.declared.Reason.the-variants.{NoRoute}
 use Rattle.plot.specs.declared.Verdict.the-variants.{Accepted, Refused}
@@ -13,23 +13,23 @@ use Rattle.plot.specs.declared.Step.{Step}
 use Rattle.plot.specs.declared.Moved.{Moved}
 
 abbrev pub stepped : Head → Step → Lent → After Moved
-stepped head step p = record { answer = record { head = head; step = step }; held = p }
+stepped head step p = record { answer = record { head = head; step = step }; lists = p }
 
 -- "the cart goes to the linked cell and the link of the cell it left becomes 0"
 abbrev pub headOnward : Head → Lent → Head
 headOnward head p = movedTo head (next (head .width) (head .height) (p .link) (head .cell))
 
-abbrev pub leftBehind : Head → Lent → Lent
-leftBehind head p = lent (p .ground) (p .learned) (set (p .link) (head .cell) 0)
+abbrev pub listsOnward : Head → Lent → Lent
+listsOnward head p = lentWith (p .ground) (p .learned) (set (p .link) (head .cell) 0)
 
 -- "on the goal, "arrived" and nothing changes. Where a route stands, .."
 unfoldable pub moved : Head → Lent → After Moved
 moved head p =
-    elim (accepts head p) [
+    elim (acceptance head p) [
       | Accepted ↦ elim (eqb (head .cell) (head .goal)) [
         | true ↦ stepped head Step.Arrived p
         | false ↦ elim (stands head p) [
-          | true ↦ stepped (headOnward head p) Step.Moved (leftBehind head p)
+          | true ↦ stepped (headOnward head p) Step.Moved (listsOnward head p)
           | false ↦ stepped head (Step.Refused NoRoute) p
         ]
       ]

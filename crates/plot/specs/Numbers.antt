@@ -1,4 +1,5 @@
--- Document 01's number and values for each case of each answer.
+-- The number and values of each case of each answer. Document 01 gives those of a refusal and of the C calls' answers;
+-- layout, load and save go by the same rule where a host asks for one number.
 use Prim.Native.Nat.{ℕ, _+_}
 use Rattle.plot.specs.declared.Reason.{Reason}
 use Rattle.plot.specs.declared.Reason.the-variants.{Sides, Short, Outside, Unsound, OwnCell, NoRoute, Form}
@@ -42,7 +43,7 @@ lengthVerdict (Length.Refused why) = Verdict.Refused why
 abbrev pub refusal : Reason → ℕ
 refusal why = 70000 + reasonNumber why
 
--- "report gives 0"; so do layout and load
+-- "report gives 0"; layout and load likewise
 abbrev pub changedAnswer : Verdict → ℕ
 changedAnswer Verdict.Accepted = 0
 changedAnswer (Verdict.Refused why) = refusal why

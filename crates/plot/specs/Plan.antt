@@ -6,7 +6,7 @@ use lib.ListN.{getD, set}
 use lib.Dec.{ltb, eqb}
 use Rattle.plot.specs.Turns.{filled, tally}
 use Rattle.plot.specs.Plot.{cells, behind}
-use Rattle.plot.specs.Lent.{Lent, Scratch, lent, buffersOf, scratchBuffers}
+use Rattle.plot.specs.Lent.{Lent, Scratch, lentWith, buffersOf, scratchBuffers}
 use Rattle.plot.specs.Head.{cellsOf, cellsNamed}
 use Rattle.plot.specs.Route.{leadsFrom}
 use Rattle.plot.specs.Refusals.{check}
@@ -20,8 +20,8 @@ use Rattle.plot.specs.declared.Planned.{Planned}
 -- an answer, and what is lent and the scratch afterwards
 pub record AfterPlan : Type 0 where
   pub answer : Planned
-  pub held : Lent
-  pub left : Scratch
+  pub lists : Lent
+  pub scratch : Scratch
 
 abbrev pub answered : Head → (count : ℕ) → Outcome → Planned
 answered head count outcome = record { head = head; expanded = count; outcome = outcome }
@@ -43,7 +43,7 @@ unfoldable pub expandedCount : (n : ℕ) (mark : List ℕ) → ℕ
 expandedCount n mark = tally n (isExpanded mark)
 
 -- "each expanded cell x gets learned = cost(s) + learned(s) - cost(x)": the learned value of x after a search that found
--- a route of this length
+-- a route of this length. No expanded cell costs more than the length (proofs/Learning, `cost-within`)
 unfoldable pub lesson : (length : ℕ) (learned mark cost : List ℕ) (x : ℕ) → ℕ
 lesson length learned mark cost x = cond (isExpanded mark x) (length - getD cost x 0) (getD learned x 0)
 
@@ -59,7 +59,7 @@ linked w h trail (suc v) c link =
 -- stopped at c with this scratch
 unfoldable pub improved : (w h : ℕ) → Lent → (c : ℕ) → Scratch → Lent
 improved w h p c s =
-    lent (p .ground)
+    lentWith (p .ground)
     (filled (cells w h) (lesson (total (p .learned) (s .cost) c) (p .learned) (s .mark) (s .cost)) (p .learned))
     (linked w h (s .trail) (getD (s .cost) c 0) c (p .link))
 
@@ -67,16 +67,16 @@ improved w h p c s =
 abbrev pub found : Head → Lent → (c : ℕ) → Scratch → AfterPlan
 found head p c s = record {
   answer = answered head (expandedCount (cellsOf head) (s .mark)) (Outcome.Route (total (p .learned) (s .cost) c));
-  held = improved (head .width) (head .height) p c s;
-  left = s;
+  lists = improved (head .width) (head .height) p c s;
+  scratch = s;
 }
 
 -- "Nothing waits: answer "no way"; learned and link stay, scratch is as the search left it"
 abbrev pub lost : Head → Lent → Scratch → AfterPlan
 lost head p s = record {
   answer = answered head (expandedCount (cellsOf head) (s .mark)) Outcome.NoWay;
-  held = p;
-  left = s;
+  lists = p;
+  scratch = s;
 }
 
 -- a search never runs out of turns
@@ -90,8 +90,8 @@ unfoldable pub planned : Head → Lent → Scratch → AfterPlan
 planned head p s =
     elim (planCheck head p s) [
       | Accepted ↦ elim (eqb (head .cell) (head .goal)) [
-        | true ↦ record { answer = answered head 0 Outcome.Arrived; held = p; left = s }
+        | true ↦ record { answer = answered head 0 Outcome.Arrived; lists = p; scratch = s }
         | false ↦ concluded head p (searched head p s)
       ]
-      | Refused why ↦ record { answer = answered head 0 (Outcome.Refused why); held = p; left = s }
+      | Refused why ↦ record { answer = answered head 0 (Outcome.Refused why); lists = p; scratch = s }
     ]

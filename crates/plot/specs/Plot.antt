@@ -31,7 +31,7 @@ abbrev pub column : (w c : ℕ) → ℕ
 column w c = c % w
 
 -- "Directions: 1 right (+1), 2 down (+W), 3 left (-1), 4 up (-W)": the cell one step from c in direction d.
--- "a step never leaves the plot or wraps": N where it would, and where d is no direction
+-- "a step never leaves the plot or wraps from one row to the next": N where it would, and where d is no direction
 unfoldable pub ahead : (w h c d : ℕ) → ℕ
 ahead w h c d =
     cond (eqb d 1) (cond (ltb (column w c + 1) w) (c + 1) (cells w h))
@@ -51,7 +51,7 @@ behind w h c d = ahead w h c (opposite d)
 abbrev pub inEach : (ℕ → Bool) → Bool
 inEach test = test 1 && (test 2 && (test 3 && test 4))
 
--- "0 free, 1 known blocked"
+-- "0 free, 1 known blocked". (A list has no entry outside the plot to ask: whoever asks knows that c is on it.)
 abbrev pub free : (ground : List ℕ) (c : ℕ) → Bool
 free ground c = eqb (getD ground c 0) 0
 

@@ -5,7 +5,7 @@ use mathlib.Core.List.{List, [], _∷_, _++_}
 use lib.ListN.{length, getD, take, drop, replicate}
 use lib.Dec.{ltb, eqb}
 use Rattle.plot.specs.Turns.{filled, gathered}
-use Rattle.plot.specs.Lent.{Lent, lent}
+use Rattle.plot.specs.Lent.{Lent, lentWith}
 use Rattle.plot.specs.Head.{headAt, cellsOf}
 use Rattle.plot.specs.declared.Head.{Head}
 
@@ -19,11 +19,11 @@ big x = x / 256 ∷ x % 256 ∷ []
 abbrev pub field : (tag : ℕ) → List ℕ → List ℕ
 field tag bytes = (tag ∷ big (length bytes)) ++ bytes
 
--- "ground, ceil(N/8) bytes, cell k is bit k mod 8 (bit 0 the lowest) of byte k div 8, spare bits 0": the lowest m bits
--- of byte j
+-- "ground, ceil(N/8) bytes, .."
 abbrev pub groundSize : ℕ → ℕ
 groundSize n = (n + 7) / 8
 
+-- "cell k is bit k mod 8 (bit 0 the lowest) of byte k div 8, spare bits 0": the lowest m bits of byte j
 unfoldable pub lowBits : (n : ℕ) (ground : List ℕ) (j m : ℕ) → ℕ
 lowBits n ground j zero = 0
 lowBits n ground j (suc m) = lowBits n ground j m + cond (ltb (8 * j + m) n) (getD ground (8 * j + m) 0 * 2 ^ m) 0
@@ -107,7 +107,7 @@ linkIn n bytes c = byteOf (drop (linkAt n) bytes) c
 -- "sets the first N entries of ground, learned and link"
 unfoldable pub readInto : (n : ℕ) (bytes : List ℕ) → Lent → Lent
 readInto n bytes p =
-    lent (filled n (groundIn bytes) (p .ground)) (filled n (learnedIn n bytes) (p .learned))
+    lentWith (filled n (groundIn bytes) (p .ground)) (filled n (learnedIn n bytes) (p .learned))
     (filled n (linkIn n bytes) (p .link))
 
 -- Form ----------------------------------------------------------------------------------------------------------------------------
@@ -122,10 +122,12 @@ same (x ∷ xs) (y ∷ ys) = eqb x y && same xs ys
 unfoldable pub sidesFormed : List ℕ → Bool
 sidesFormed bytes = same (take goalAt bytes) (field 1 (widthOf bytes ∷ []) ++ field 2 (heightOf bytes ∷ []))
 
--- all fields are: the bytes are the record of the state read out of them
+-- lists of n zeros to read into
 abbrev pub roomFor : ℕ → Lent
-roomFor n = lent (replicate n 0) (replicate n 0) (replicate n 0)
+roomFor n = lentWith (replicate n 0) (replicate n 0) (replicate n 0)
 
+-- all fields are in form: the bytes are the record of the state read out of them, to the last byte. (What is missing reads
+-- as 0, and then the record is longer than the bytes.)
 unfoldable pub formed : List ℕ → Bool
 formed bytes =
     let n = cellsOf (headOf bytes) in

@@ -1,4 +1,4 @@
--- "What comes back when it can't be done": the tests that calls share, in the order of their numbers.
+-- "What comes back when it can't be done": the tests that calls share, in the order of their numbers, and the verdict.
 use Prim.Native.Nat.{ℕ}
 use mathlib.Core.Bool.{Bool, true, false, not, _||_}
 use mathlib.Core.List.{List, [], _∷_}
@@ -50,9 +50,9 @@ unfoldable pub check : Head → Lent → (buffers : List (List ℕ)) (named : Li
 check head p buffers named =
     andThen (fits (head .width) (head .height) buffers named) (refuseIf (not (sound head p)) Unsound Accepted)
 
--- .. where it is given nothing beside the head and what is lent: the data are accepted
-abbrev pub accepts : Head → Lent → Verdict
-accepts head p = check head p (buffersOf p) (cellsNamed head)
+-- the same of the head and what is lent alone: the data are accepted. What else a call is given it tests afterwards
+abbrev pub acceptance : Head → Lent → Verdict
+acceptance head p = check head p (buffersOf p) (cellsNamed head)
 
 -- the answer of a call that changes what is lent: the next head, and the verdict
 abbrev pub changed : Head → Verdict → Changed

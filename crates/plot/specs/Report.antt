@@ -6,7 +6,7 @@ use lib.ListN.{getD, set}
 use lib.Dec.{eqb}
 use Rattle.plot.specs.Turns.{filled}
 use Rattle.plot.specs.Plot.{cells, free}
-use Rattle.plot.specs.Lent.{Lent, lent, buffersOf, After}
+use Rattle.plot.specs.Lent.{Lent, lentWith, buffersOf, After}
 use Rattle.plot.specs.Head.{cellsNamed}
 use Rattle.plot.specs.Route.{next}
 use Rattle.plot.specs.Refusals.{refuseIf, andThen, check, changed}
@@ -16,6 +16,7 @@ use Rattle.plot.specs.declared.Verdict.{Verdict}
 use Rattle.plot.specs.declared.Verdict.the-variants.{Accepted, Refused}
 use Rattle.plot.specs.declared.Changed.{Changed}
 
+-- "The goal may be reported, unless the cart is on it": 5 is of the cart's cell alone
 unfoldable pub reportCheck : Head → Lent → (c : ℕ) → Verdict
 reportCheck head p c =
     andThen (check head p (buffersOf p) (c ∷ cellsNamed head)) (refuseIf (eqb c (head .cell)) OwnCell Accepted)
@@ -31,12 +32,12 @@ linksOnceBlocked w h link c = filled (cells w h) (linkOnceBlocked w h link c) li
 unfoldable pub blocked : Head → Lent → (c : ℕ) → Lent
 blocked head p c =
     cond (free (p .ground) c)
-    (lent (set (p .ground) c 1) (p .learned) (linksOnceBlocked (head .width) (head .height) (p .link) c))
+    (lentWith (set (p .ground) c 1) (p .learned) (linksOnceBlocked (head .width) (head .height) (p .link) c))
     p
 
 unfoldable pub reported : Head → Lent → (c : ℕ) → After Changed
 reported head p c =
     elim (reportCheck head p c) [
-      | Accepted ↦ record { answer = changed head Accepted; held = blocked head p c }
-      | Refused why ↦ record { answer = changed head (Refused why); held = p }
+      | Accepted ↦ record { answer = changed head Accepted; lists = blocked head p c }
+      | Refused why ↦ record { answer = changed head (Refused why); lists = p }
     ]

@@ -24,7 +24,7 @@ leads w h goal learned link (suc v) c =
 abbrev pub leadsFrom : (w h goal : ℕ) → Lent → ℕ → Bool
 leadsFrom w h goal p c = leads w h goal (p .learned) (p .link) (getD (p .learned) c 0) c
 
--- "Route stands": so it is from the cart's cell
+-- "Route stands": so it is from the cart's cell. "It stands at the goal itself"
 abbrev pub stands : Head → Lent → Bool
 stands head p = leadsFrom (head .width) (head .height) (head .goal) p (head .cell)
 
@@ -33,6 +33,7 @@ unfoldable pub cellsFrom : (w h : ℕ) (link : List ℕ) (v c : ℕ) → List �
 cellsFrom w h link zero c = c ∷ []
 cellsFrom w h link (suc v) c = c ∷ cellsFrom w h link v (next w h link c)
 
--- "its cells from the cart's cell to the goal"
+-- "its cells from the cart's cell to the goal": one more than its steps, and where the route stands the last is the goal
+-- (proofs/Listing, `list-writes`)
 unfoldable pub route : Head → Lent → List ℕ
 route head p = cellsFrom (head .width) (head .height) (p .link) (getD (p .learned) (head .cell) 0) (head .cell)

@@ -6,7 +6,7 @@ use lib.ListN.{getD, set}
 use lib.Dec.{ltb, eqb}
 use Rattle.plot.specs.Turns.{filled, each}
 use Rattle.plot.specs.Plot.{cells, ahead, allowed}
-use Rattle.plot.specs.Lent.{Lent, Scratch, scratch}
+use Rattle.plot.specs.Lent.{Lent, Scratch, scratchWith}
 
 abbrev pub unseenCost : ℕ
 unseenCost = 65535
@@ -14,7 +14,7 @@ unseenCost = 65535
 -- "scratch is set to unseen; the cart's cell gets cost 0 and waits"
 unfoldable pub begun : (n cell : ℕ) → Scratch → Scratch
 begun n cell s =
-    scratch (set (filled n (each 0) (s .mark)) cell 1) (set (filled n (each unseenCost) (s .cost)) cell 0)
+    scratchWith (set (filled n (each 0) (s .mark)) cell 1) (set (filled n (each unseenCost) (s .cost)) cell 0)
     (filled n (each 0) (s .trail))
 
 -- The order --------------------------------------------------------------------------------------------------------------------
@@ -27,7 +27,8 @@ total learned cost c = getD cost c 0 + getD learned c 0
 unfoldable pub smallerFirst : (x y : ℕ) (next : Bool) → Bool
 smallerFirst x y next = ltb x y || (eqb x y && next)
 
--- "the smallest cost + learned; among these the larger cost; among these the lower cell number": a is taken before b
+-- "the smallest cost + learned; among these the larger cost; among these the lower cell number": a is taken before b. (The
+-- larger cost comes first where b's is the smaller.)
 unfoldable pub earlier : (learned : List ℕ) → Scratch → (a b : ℕ) → Bool
 earlier learned s a b =
     smallerFirst (total learned (s .cost) a) (total learned (s .cost) b)
@@ -54,7 +55,7 @@ first w h p s = best (cells w h) (p .learned) s (cells w h)
 
 -- x is reached at this cost by a step in direction d, and waits
 abbrev pub reached : (x cost d : ℕ) → Scratch → Scratch
-reached x cost d s = scratch (set (s .mark) x 1) (set (s .cost) x cost) (set (s .trail) x d)
+reached x cost d s = scratchWith (set (s .mark) x 1) (set (s .cost) x cost) (set (s .trail) x d)
 
 -- "where its cost + 1 is less than the neighbour's cost, set the neighbour's cost and trail, and it waits": c looks in
 -- direction d
@@ -68,7 +69,7 @@ looked w h ground c d s =
 unfoldable pub expanded : (w h : ℕ) (ground : List ℕ) (c : ℕ) → Scratch → Scratch
 expanded w h ground c s =
     looked w h ground c 4 (looked w h ground c 3 (looked w h ground c 2 (looked w h ground c 1 (
-    scratch (set (s .mark) c 2) (s .cost) (s .trail)))))
+    scratchWith (set (s .mark) c 2) (s .cost) (s .trail)))))
 
 -- The loop -----------------------------------------------------------------------------------------------------------------------
 
@@ -78,8 +79,8 @@ pub data Ended : Type 0 where
   nothingWaits : Scratch → Ended
   outOfTurns : Scratch → Ended
 
--- "Repeatedly take the waiting cell .. If [it stops there] stop there; that cell stays marked waiting. Otherwise [expand it]."
--- Whether it stops at a cell is a parameter. N turns are enough (proofs/Searching, `search-ends`): no cell is expanded
+-- "Repeatedly take the waiting cell .. If [it stops there], stop there; that cell stays marked waiting. Otherwise [expand it]."
+-- Whether it stops at a cell is a parameter. N turns are enough (proofs/Beginning, `search-ends`): no cell is expanded
 -- twice, and the goal never is
 unfoldable pub run : (w h : ℕ) → Lent → (stops : ℕ → Bool) → (turns : ℕ) → Scratch → Ended
 run w h p stops zero s = outOfTurns s

@@ -6,7 +6,7 @@ use Rattle.plot.specs.Plot.{badSides}
 use Rattle.plot.specs.Lent.{Lent, buffersOf, After, fronted}
 use Rattle.plot.specs.Head.{noHead, cellsOf, cellsNamed}
 use Rattle.plot.specs.Sound.{sound}
-use Rattle.plot.specs.Refusals.{refuseIf, andThen, tooShort, anyShort, anyOutside, accepts, changed}
+use Rattle.plot.specs.Refusals.{refuseIf, andThen, tooShort, anyShort, anyOutside, acceptance, changed}
 use Rattle.plot.specs.Record.{recordLength, recordOf, headOf, readInto, sidesFormed, formed}
 use Rattle.plot.specs.declared.Head.{Head}
 use Rattle.plot.specs.declared.Reason.the-variants.{Sides, Short, Outside, Unsound, Form}
@@ -27,7 +27,7 @@ savedAs head length = record { head = head; length = length }
 -- "the save buffer's [2 comes] after 4"
 unfoldable pub saveCheck : Head → Lent → (buffer : List ℕ) → Verdict
 saveCheck head p buffer =
-    andThen (accepts head p) (refuseIf (tooShort (recordLength (cellsOf head)) buffer) Short Accepted)
+    andThen (acceptance head p) (refuseIf (tooShort (recordLength (cellsOf head)) buffer) Short Accepted)
 
 -- "Save answers the record's length and touches no byte after it"
 unfoldable pub saved : Head → Lent → (buffer : List ℕ) → AfterSave
@@ -56,6 +56,6 @@ loadCheck bytes p =
 unfoldable pub loaded : (bytes : List ℕ) → Lent → After Changed
 loaded bytes p =
     elim (loadCheck bytes p) [
-      | Accepted ↦ record { answer = changed (headOf bytes) Accepted; held = readInto (cellsOf (headOf bytes)) bytes p }
-      | Refused why ↦ record { answer = changed noHead (Refused why); held = p }
+      | Accepted ↦ record { answer = changed (headOf bytes) Accepted; lists = readInto (cellsOf (headOf bytes)) bytes p }
+      | Refused why ↦ record { answer = changed noHead (Refused why); lists = p }
     ]

@@ -6,7 +6,7 @@ use Prim.Native.Nat.{ℕ, _<_}
 use Rattle.walks.specs.Walk.{Walk, Fewest}
 use Rattle.plot.specs.Plot.{cells, ahead, allowed}
 use Rattle.plot.specs.Lent.{Lent}
-use Rattle.plot.specs.Refusals.{accepts}
+use Rattle.plot.specs.Refusals.{acceptance}
 use Rattle.plot.specs.declared.Head.{Head}
 use Rattle.plot.specs.declared.Verdict.the-variants.{Accepted}
 
@@ -14,7 +14,7 @@ use Rattle.plot.specs.declared.Verdict.the-variants.{Accepted}
 pub record Way (w h : ℕ) (ground : List ℕ) (d x y : ℕ) : Type 0 where
   pub inside : x < cells w h
   pub may : allowed w h ground x d ≡ true
-  pub leads : ahead w h x d ≡ y
+  pub lands : ahead w h x d ≡ y
 
 -- in some direction one does
 pub record Adj (w h : ℕ) (ground : List ℕ) (x y : ℕ) : Type 0 where
@@ -23,7 +23,7 @@ pub record Adj (w h : ℕ) (ground : List ℕ) (x y : ℕ) : Type 0 where
 
 -- the data are accepted
 abbrev pub Accepts : Head → Lent → Type 0
-Accepts head p = accepts head p ≡ Accepted
+Accepts head p = acceptance head p ≡ Accepted
 
 -- n steps over cells not known blocked lead from x to the goal ..
 abbrev pub HasWay : Head → Lent → (x n : ℕ) → Type 0
