@@ -17,11 +17,11 @@ use Rattle.plot.proofs.Turns.{below-suc}
 -- One rule, and what the next rule says among equals ------------------------------------------------------------------------------
 
 -- smallerFirst, with no Bool
-data First (x y : ℕ) (next : Bool) : Type 0 where
+pub data First (x y : ℕ) (next : Bool) : Type 0 where
   less : x < y → First x y next
   equal : x ≡ y → next ≡ true → First x y next
 
-first-is : (x y : ℕ) (next : Bool) → smallerFirst x y next ≡ true → First x y next
+pub first-is : (x y : ℕ) (next : Bool) → smallerFirst x y next ≡ true → First x y next
 unfolding smallerFirst
 first-is x y next = go _ _ refl refl
   where
@@ -148,3 +148,24 @@ module _ (n : ℕ) (learned : List ℕ) (s : Scratch) where
   unfolding best
   best-is zero l = none refl (λ y i. absurd (omega arith))
   best-is (suc k) l = sooner-is k (best n learned s k) l (best-is k (omega arith))
+
+  -- there is one such cell, so whoever finds it has found the one that is taken
+  pub foremost-is-best : (x : ℕ) → Foremost learned s n x → best n learned s n ≡ x
+  foremost-is-best x t = go (best-is n (omega arith))
+    where
+      go : {b : ℕ} → Best n learned s n b → b ≡ x
+      go (none e none-waits) = absurd (none-waits x (t .below) (t .waiting))
+      go {b} (some u) = same (ℕ-discrete b x)
+        where
+          same : Dec (b ≡ x) → b ≡ x
+          same (yes e) = e
+          same (no d) =
+              let twice = earlier-trans learned s b x b (u .before x (t .below) (t .waiting) (λ e. d (sym e))) (t .before b (u .below) (u .waiting) d) in
+              absurd (false≢true (sym (earlier-not-itself learned s b) ∙ twice))
+
+  pub none-is-best : ((y : ℕ) → y < n → getD (s .mark) y 0 ≢ 1) → best n learned s n ≡ n
+  none-is-best none-waits = go (best-is n (omega arith))
+    where
+      go : {b : ℕ} → Best n learned s n b → b ≡ n
+      go (none e _) = e
+      go {b} (some u) = absurd (none-waits b (u .below) (u .waiting))
