@@ -2,15 +2,16 @@
 -- Assumes nothing.
 use mathlib.Core.Path.{_≡_, refl, sym, ap, _∙_}
 use mathlib.Core.List.{List}
-use Prim.Native.Nat.{ℕ, _≤_, _<_}
+use Prim.Native.Nat.{ℕ, _+_, _<_}
 use native.Mathlib.Omega.{arith}
 use lib.ListN.{length}
 use Rattle.plot.specs.Plot.{maxCells}
 use Rattle.plot.specs.Lent.{Lent}
 use Rattle.plot.specs.Head.{cellsOf}
-use Rattle.plot.specs.Numbers.{outcomeVerdict, stepVerdict, refusal, changedAnswer, planAnswer, moveAnswer}
+use Rattle.plot.specs.Numbers.{reasonNumber, outcomeVerdict, stepVerdict, refusal, changedAnswer, planAnswer, moveAnswer}
 use Rattle.plot.specs.Record.{recordLength, recordOf, headOf}
 use Rattle.plot.specs.Store.{loadCheck}
+use Rattle.plot.specs.Report.{reported}
 use Rattle.plot.specs.Plan.{planned}
 use Rattle.plot.specs.Move.{moved}
 use Rattle.plot.specs.Controller.{ownRoom, ownScratch, AfterC, rewritten, onRecord, stateIn, reportedC, plannedC, movedC}
@@ -55,32 +56,47 @@ module _ (bytes : List ℕ) (verdict : Verdict) (answer : ℕ) (head : Head) (p 
       go (Refused why) v′ e f = unread e
 
 -- WHAT HOLDS of every such call.
-pub record RecordCall (bytes : List ℕ) (after : AfterC) : Type 0 where
-  -- "A refusal changes no byte that was lent"
-  pub refused : 70000 ≤ after .answer → after .bytes ≡ bytes
+pub record RecordCall (bytes : List ℕ) (verdict : Verdict) (after : AfterC) : Type 0 where
+  -- "a refusal n is 70,000 + n", and it changes no byte: load's, ..
+  pub unread : (why : Reason) → loadCheck bytes ownRoom ≡ Refused why → (after .answer ≡ 70000 + reasonNumber why) × (after .bytes ≡ bytes)
+  -- .. and then the call's own
+  pub undone : (why : Reason) → loadCheck bytes ownRoom ≡ Accepted → verdict ≡ Refused why → (after .answer ≡ 70000 + reasonNumber why) × (after .bytes ≡ bytes)
+  -- an accepted call answers less
+  pub done : loadCheck bytes ownRoom ≡ Accepted → verdict ≡ Accepted → after .answer < 70000
   -- "rewritten there with the same length"
   pub same-length : length (after .bytes) ≡ length bytes
   -- a record that load accepts stays one
   pub stays-record : loadCheck bytes ownRoom ≡ Accepted → loadCheck (after .bytes) ownRoom ≡ Accepted
 
--- what is asked of an accepted call
-record Serves (bytes : List ℕ) (answer : ℕ) (head : Head) (p : Lent) : Type 0 where
-  -- its answer is no refusal's number
-  small : answer < 70000
-  same-cells : cellsOf head ≡ cellsOf (headOf bytes)
-  held : Held head p
+-- what is asked of a call: its number where it is refused, and where it is accepted a smaller one, and accepted data
+record Serves (bytes : List ℕ) (verdict : Verdict) (answer : ℕ) (head : Head) (p : Lent) : Type 0 where
+  number : (why : Reason) → verdict ≡ Refused why → answer ≡ 70000 + reasonNumber why
+  small : loadCheck bytes ownRoom ≡ Accepted → verdict ≡ Accepted → answer < 70000
+  same-cells : loadCheck bytes ownRoom ≡ Accepted → cellsOf head ≡ cellsOf (headOf bytes)
+  held : loadCheck bytes ownRoom ≡ Accepted → Held head p
 
-record-call : {bytes : List ℕ} {verdict : Verdict} {answer : ℕ} {head : Head} {p : Lent} {after : AfterC} → OnRecord bytes verdict answer head p after
-    → (loadCheck bytes ownRoom ≡ Accepted → verdict ≡ Accepted → Serves bytes answer head p) → RecordCall bytes after
-record-call (unread e) f = record { refused = λ _. refl; same-length = refl; stays-record = λ l. l }
-record-call (undone e g) f = record { refused = λ _. refl; same-length = refl; stays-record = λ l. l }
-record-call {bytes} {head = head} {p = p} (done e g) f =
-    let s = f e g in
-    record {
-      refused = λ l. absurd (omega (arith, s .small));
-      same-length = record-long head p (s .held .room) ∙ ap recordLength (s .same-cells) ∙ sym (load-long bytes ownRoom e);
-      stays-record = λ _. load-accepted head p (s .held) ownRoom (room-for (cellsOf head) maxCells (s .held .placed .few));
-    }
+record-call : {bytes : List ℕ} {verdict : Verdict} {answer : ℕ} {head : Head} {p : Lent} {after : AfterC} → OnRecord bytes verdict answer head p after → Serves bytes verdict answer head p → RecordCall bytes verdict after
+record-call (unread {why = other} e) s = record {
+  unread = λ why f. let q : other ≡ why = cc in (ap refusal q, refl);
+  undone = λ why f. absurd (not-both e f);
+  done = λ f. absurd (not-both e f);
+  same-length = refl;
+  stays-record = λ l. l;
+}
+record-call (undone e g) s = record {
+  unread = λ why f. absurd (not-both f e);
+  undone = λ why _ f. (s .number why f, refl);
+  done = λ _ f. absurd (not-both g f);
+  same-length = refl;
+  stays-record = λ l. l;
+}
+record-call {bytes} {head = head} {p = p} (done e g) s = record {
+  unread = λ why f. absurd (not-both f e);
+  undone = λ why _ f. absurd (not-both f g);
+  done = s .small;
+  same-length = record-long head p (s .held e .room) ∙ ap recordLength (s .same-cells e) ∙ sym (load-long bytes ownRoom e);
+  stays-record = λ _. load-accepted head p (s .held e) ownRoom (room-for (cellsOf head) maxCells (s .held e .placed .few));
+}
 
 -- The three calls ---------------------------------------------------------------------------------------------------------------
 
@@ -88,44 +104,59 @@ module _ (bytes : List ℕ) where
   state-held : loadCheck bytes ownRoom ≡ Accepted → Held (headOf bytes) (stateIn bytes)
   state-held e = load-held bytes ownRoom e
 
-  pub report-on-record : (c : ℕ) → RecordCall bytes (reportedC bytes c)
+  pub report-on-record : (c : ℕ) → RecordCall bytes (reported (headOf bytes) (stateIn bytes) c .answer .verdict) (reportedC bytes c)
   unfolding reportedC
-  report-on-record c = record-call (on-record bytes _ _ _ _) (λ e a.
+  report-on-record c =
       let k = report-keeps (headOf bytes) (stateIn bytes) c in
-      record { small = zero-small _ a; same-cells = ap cellsOf (k .same-head); held = rw (k .same-head) (k .held (state-held e)) })
-    where
-      zero-small : (v : Verdict) → v ≡ Accepted → changedAnswer v < 70000
-      zero-small v e = rw e (omega arith)
+      record-call (on-record bytes _ _ _ _) (record {
+        number = λ why e. ap changedAnswer e;
+        small = λ _ e. rw (ap changedAnswer e) (omega arith);
+        same-cells = λ _. ap cellsOf (k .same-head);
+        held = λ e. rw (k .same-head) (k .held (state-held e));
+      })
 
-  pub plan-on-record : RecordCall bytes (plannedC bytes)
+  pub plan-on-record : RecordCall bytes (outcomeVerdict (planned (headOf bytes) (stateIn bytes) ownScratch .answer .outcome)) (plannedC bytes)
   unfolding plannedC
-  plan-on-record = record-call (on-record bytes _ _ _ _) (λ e a.
+  plan-on-record =
       let k = plan-keeps (headOf bytes) (stateIn bytes) ownScratch in
-      let h = state-held e in
-      record {
-        small = length-small h (planned (headOf bytes) (stateIn bytes) ownScratch .answer .outcome) a (plan-is-true (headOf bytes) (stateIn bytes) ownScratch);
-        same-cells = ap cellsOf (k .same-head);
-        held = rw (k .same-head) (k .held h);
+      let o = planned (headOf bytes) (stateIn bytes) ownScratch .answer .outcome in
+      record-call (on-record bytes _ _ _ _) (record {
+        number = λ why. refused o why;
+        small = λ e a. length-small (state-held e) o a (plan-is-true (headOf bytes) (stateIn bytes) ownScratch);
+        same-cells = λ _. ap cellsOf (k .same-head);
+        held = λ e. rw (k .same-head) (k .held (state-held e));
       })
     where
+      refused : (o : Outcome) (why : Reason) → outcomeVerdict o ≡ Refused why → planAnswer o ≡ 70000 + reasonNumber why
+      refused (Outcome.Route L) why e = absurd (not-both e refl)
+      refused Outcome.NoWay why e = absurd (not-both e refl)
+      refused Outcome.Arrived why e = absurd (not-both e refl)
+      refused (Outcome.Refused other) why e = let q : other ≡ why = cc in ap refusal q
+
       length-small : Held (headOf bytes) (stateIn bytes) → (o : Outcome) → outcomeVerdict o ≡ Accepted → Says (headOf bytes) (stateIn bytes) ownScratch o → planAnswer o < 70000
       length-small h (Outcome.Route L) e t = omega (arith, fewest-below adj-inside (h .placed .cart-on) (t .2), h .placed .few)
       length-small h Outcome.NoWay e t = omega arith
       length-small h Outcome.Arrived e t = omega arith
       length-small h (Outcome.Refused why) e t = absurd (not-both refl e)
 
-  pub move-on-record : RecordCall bytes (movedC bytes)
+  pub move-on-record : RecordCall bytes (stepVerdict (moved (headOf bytes) (stateIn bytes) .answer .step)) (movedC bytes)
   unfolding movedC
-  move-on-record = record-call (on-record bytes _ _ _ _) (λ e a.
+  move-on-record =
       let k = move-keeps (headOf bytes) (stateIn bytes) in
-      let h = k .held (state-held e) in
+      let step = moved (headOf bytes) (stateIn bytes) .answer .step in
       let q = k .same-plot in
-      record {
-        small = cell-small _ (moved (headOf bytes) (stateIn bytes) .answer .step) (omega (arith, h .placed .cart-on, h .placed .few)) a;
-        same-cells = rw (q .0, q .1);
-        held = h;
+      record-call (on-record bytes _ _ _ _) (record {
+        number = λ why. refused _ step why;
+        small = λ e a. let h = k .held (state-held e) in cell-small _ step (omega (arith, h .placed .cart-on, h .placed .few)) a;
+        same-cells = λ _. rw (q .0, q .1);
+        held = λ e. k .held (state-held e);
       })
     where
+      refused : (cell : ℕ) (s : Step) (why : Reason) → stepVerdict s ≡ Refused why → moveAnswer cell s ≡ 70000 + reasonNumber why
+      refused cell Step.Moved why e = absurd (not-both e refl)
+      refused cell Step.Arrived why e = absurd (not-both e refl)
+      refused cell (Step.Refused other) why e = let q : other ≡ why = cc in ap refusal q
+
       cell-small : (cell : ℕ) (s : Step) → cell < 70000 → stepVerdict s ≡ Accepted → moveAnswer cell s < 70000
       cell-small cell Step.Moved l e = l
       cell-small cell Step.Arrived l e = l

@@ -16,10 +16,10 @@ use Rattle.walks.proofs.Relaxing.{Relaxes, relax-then, relax-as, Marked, expans
 use Rattle.plot.specs.Plot.{cells, ahead, allowed}
 use Rattle.plot.specs.Lent.{Scratch, scratchWith}
 use Rattle.plot.specs.Search.{reached, looked, expanded}
-use Rattle.plot.specs.Ways.{Way, Adj}
+use Rattle.plot.specs.Ways.{Leg, Adj}
 use Rattle.plot.proofs.Views.{at, view, mark-set-same, mark-set-other}
 use Rattle.plot.proofs.Fit.{Sized}
-use Rattle.plot.proofs.Geometry.{allowed-on, way-low, way-high}
+use Rattle.plot.proofs.Geometry.{allowed-on, leg-low, leg-high}
 
 -- the four directions, one after another
 abbrev Four : (ℕ → ℕ → Type 0) → ℕ → Type 0
@@ -28,37 +28,37 @@ Four P y = ((P 1 y ⊎ P 2 y) ⊎ P 3 y) ⊎ P 4 y
 module _ (w h : ℕ) (ground : List ℕ) (x : ℕ) (inside : x < cells w h) where
   -- looking in one direction
   module _ (d : ℕ) (s : Scratch) (z : Sized (cells w h) s) where
-    look-down : allowed w h ground x d ≡ true → at (s .cost) x + 1 < at (s .cost) (ahead w h x d) → Relaxes (Way w h ground d x) (Way w h ground) x (view (cells w h) s) (view (cells w h) (reached (ahead w h x d) (at (s .cost) x + 1) d s))
+    look-down : allowed w h ground x d ≡ true → at (s .cost) x + 1 < at (s .cost) (ahead w h x d) → Relaxes (Leg w h ground d x) (Leg w h ground) x (view (cells w h) s) (view (cells w h) (reached (ahead w h x d) (at (s .cost) x + 1) d s))
     look-down a lt y = go (ℕ-discrete y (ahead w h x d)) (allowed-on w h ground x d a)
       where
-        way : Way w h ground d x (ahead w h x d)
-        way = record { inside = inside; may = a; lands = refl }
+        leg : Leg w h ground d x (ahead w h x d)
+        leg = record { inside = inside; may = a; lands = refl }
 
-        go : Dec (y ≡ ahead w h x d) → ahead w h x d < cells w h → Relaxed (Way w h ground d x) (Way w h ground) x (view (cells w h) s) (view (cells w h) (reached (ahead w h x d) (at (s .cost) x + 1) d s)) y
+        go : Dec (y ≡ ahead w h x d) → ahead w h x d < cells w h → Relaxed (Leg w h ground d x) (Leg w h ground) x (view (cells w h) s) (view (cells w h) (reached (ahead w h x d) (at (s .cost) x + 1) d s)) y
         go (yes e) b =
-            rw e (lowered way lt
+            rw e (lowered leg lt
             (mark-set-same (cells w h) (s .mark) (ahead w h x d) 1 (z .marks) b)
             (getD-set-same (s .cost) (ahead w h x d) (at (s .cost) x + 1) 0 (omega (arith, z .costs)))
-            (rw (getD-set-same (s .trail) (ahead w h x d) d 0 (omega (arith, z .trails))) way))
+            (rw (getD-set-same (s .trail) (ahead w h x d) d 0 (omega (arith, z .trails))) leg))
         go (no n) b =
             kept (λ v. absurd (n (sym (v .lands))))
             (mark-set-other (cells w h) (s .mark) (ahead w h x d) y 1 n)
             (getD-set-other (s .cost) (ahead w h x d) y (at (s .cost) x + 1) 0 n)
             (getD-set-other (s .trail) (ahead w h x d) y d 0 n)
 
-    look-stay : (allowed w h ground x d ≡ true → at (s .cost) (ahead w h x d) ≤ at (s .cost) x + 1) → Relaxes (Way w h ground d x) (Way w h ground) x (view (cells w h) s) (view (cells w h) s)
+    look-stay : (allowed w h ground x d ≡ true → at (s .cost) (ahead w h x d) ≤ at (s .cost) x + 1) → Relaxes (Leg w h ground d x) (Leg w h ground) x (view (cells w h) s) (view (cells w h) s)
     look-stay f y = kept (λ v. rw (v .lands) at (f (v .may))) refl refl refl
 
-    look-is : Relaxes (Way w h ground d x) (Way w h ground) x (view (cells w h) s) (view (cells w h) (looked w h ground x d s))
+    look-is : Relaxes (Leg w h ground d x) (Leg w h ground) x (view (cells w h) s) (view (cells w h) (looked w h ground x d s))
     unfolding looked
     look-is = go _ _ refl refl
       where
-        go : (a b : Bool) → allowed w h ground x d ≡ a → ltb (at (s .cost) x + 1) (at (s .cost) (ahead w h x d)) ≡ b → Relaxes (Way w h ground d x) (Way w h ground) x (view (cells w h) s) (view (cells w h) (cond (a && b) (reached (ahead w h x d) (at (s .cost) x + 1) d s) s))
+        go : (a b : Bool) → allowed w h ground x d ≡ a → ltb (at (s .cost) x + 1) (at (s .cost) (ahead w h x d)) ≡ b → Relaxes (Leg w h ground d x) (Leg w h ground) x (view (cells w h) s) (view (cells w h) (cond (a && b) (reached (ahead w h x d) (at (s .cost) x + 1) d s) s))
         go true true e f = look-down e (ltb-true _ _ f)
         go true false e f = look-stay (λ _. ltb-false _ _ f)
         go false b e f = look-stay (λ q. absurd (false≢true (sym e ∙ q)))
 
-    look-sized : Sized (cells w h) (looked w h ground x d s)
+    pub look-sized : Sized (cells w h) (looked w h ground x d s)
     unfolding looked
     look-sized = go (allowed w h ground x d && ltb (at (s .cost) x + 1) (at (s .cost) (ahead w h x d)))
       where
@@ -67,16 +67,16 @@ module _ (w h : ℕ) (ground : List ℕ) (x : ℕ) (inside : x < cells w h) wher
         go false = z
 
   -- the directions one by one are all the allowed steps
-  four-adj : (y : ℕ) → Four (λ d y. Way w h ground d x y) y → Adj w h ground x y
-  four-adj y (inl (inl (inl v))) = record { dir = 1; way = v }
-  four-adj y (inl (inl (inr v))) = record { dir = 2; way = v }
-  four-adj y (inl (inr v)) = record { dir = 3; way = v }
-  four-adj y (inr v) = record { dir = 4; way = v }
+  four-adj : (y : ℕ) → Four (λ d y. Leg w h ground d x y) y → Adj w h ground x y
+  four-adj y (inl (inl (inl v))) = record { dir = 1; leg = v }
+  four-adj y (inl (inl (inr v))) = record { dir = 2; leg = v }
+  four-adj y (inl (inr v)) = record { dir = 3; leg = v }
+  four-adj y (inr v) = record { dir = 4; leg = v }
 
-  adj-four : (y : ℕ) → Adj w h ground x y → Four (λ d y. Way w h ground d x y) y
-  adj-four y a = pick (a .dir) (way-low (a .way)) (way-high (a .way)) (a .way)
+  adj-four : (y : ℕ) → Adj w h ground x y → Four (λ d y. Leg w h ground d x y) y
+  adj-four y a = pick (a .dir) (leg-low (a .leg)) (leg-high (a .leg)) (a .leg)
     where
-      pick : (d : ℕ) → 1 ≤ d → d ≤ 4 → Way w h ground d x y → Four (λ d y. Way w h ground d x y) y
+      pick : (d : ℕ) → 1 ≤ d → d ≤ 4 → Leg w h ground d x y → Four (λ d y. Leg w h ground d x y) y
       pick zero l k v = absurd (omega arith)
       pick (suc zero) l k v = inl (inl (inl v))
       pick (suc (suc zero)) l k v = inl (inl (inr v))
@@ -86,7 +86,7 @@ module _ (w h : ℕ) (ground : List ℕ) (x : ℕ) (inside : x < cells w h) wher
 
   -- marking, and then looking
   module _ (s : Scratch) (z : Sized (cells w h) s) where
-    abbrev marked : Scratch
+    abbrev pub marked : Scratch
     marked = scratchWith (set (s .mark) x 2) (s .cost) (s .trail)
 
     marked-is : Marked x (view (cells w h) s) (view (cells w h) marked)
@@ -97,10 +97,10 @@ module _ (w h : ℕ) (ground : List ℕ) (x : ℕ) (inside : x < cells w h) wher
       trails = λ y. refl;
     }
 
-    marked-sized : Sized (cells w h) marked
+    pub marked-sized : Sized (cells w h) marked
     marked-sized = record { marks = rw length-set (z .marks); costs = z .costs; trails = z .trails }
 
-    pub expand-is : Expansion (Adj w h ground) (Way w h ground) x (view (cells w h) s) (view (cells w h) (expanded w h ground x s))
+    pub expand-is : Expansion (Adj w h ground) (Leg w h ground) x (view (cells w h) s) (view (cells w h) (expanded w h ground x s))
     unfolding expanded
     expand-is =
         let z₁ = look-sized 1 marked marked-sized in

@@ -10,7 +10,7 @@ use native.Mathlib.Omega.{arith}
 use borrow.Author.Tests.{ltb-true, leb-true, ne-eqb, lt-ltb, le-leb}
 use lib.Dec.{ltb, leb}
 use Rattle.plot.specs.Plot.{cells, column, ahead, opposite, behind, free, allowed}
-use Rattle.plot.specs.Ways.{Way, Adj}
+use Rattle.plot.specs.Ways.{Leg, Adj}
 use Rattle.plot.proofs.Bools.{and-left, and-right, and-both}
 
 -- direction d leads from c to y
@@ -116,10 +116,6 @@ stepped-back {w} {h} {c} p b (up l) = same-cell (down (omega arith))
     same-cell : Stepped w h (c - w) 2 (c - w + w) → Stepped w h (c - w) 2 c
     same-cell s = let e : c - w + w ≡ c = omega arith in rw e at s
 
--- `behind` undoes `ahead`, and `ahead` undoes `behind`
-pub behind-ahead : (w h c d : ℕ) → 0 < w → c < cells w h → ahead w h c d < cells w h → behind w h (ahead w h c d) d ≡ c
-behind-ahead w h c d p b l = stepped-ahead (stepped-back p b (ahead-is w h c d l))
-
 -- Allowed steps ---------------------------------------------------------------------------------------------------------------
 
 module _ (w h : ℕ) (ground : List ℕ) (c d : ℕ) where
@@ -140,44 +136,44 @@ module _ (w h : ℕ) (ground : List ℕ) (c d : ℕ) where
   allow f l e = and-both _ _ f (and-both _ _ (lt-ltb _ _ l) e)
 
 module _ {w h : ℕ} {ground : List ℕ} where
-  pub way-here : {d x y : ℕ} → Way w h ground d x y → free ground x ≡ true
-  way-here {d} {x} a = allowed-here w h ground x d (a .may)
+  pub leg-here : {d x y : ℕ} → Leg w h ground d x y → free ground x ≡ true
+  leg-here {d} {x} a = allowed-here w h ground x d (a .may)
 
-  pub way-inside : {d x y : ℕ} → Way w h ground d x y → y < cells w h
-  way-inside {d} {x} a = rw (a .lands) at (allowed-on w h ground x d (a .may))
+  pub leg-inside : {d x y : ℕ} → Leg w h ground d x y → y < cells w h
+  leg-inside {d} {x} a = rw (a .lands) at (allowed-on w h ground x d (a .may))
 
-  pub way-free : {d x y : ℕ} → Way w h ground d x y → free ground y ≡ true
-  way-free {d} {x} a = rw (a .lands) at (allowed-free w h ground x d (a .may))
+  pub leg-free : {d x y : ℕ} → Leg w h ground d x y → free ground y ≡ true
+  leg-free {d} {x} a = rw (a .lands) at (allowed-free w h ground x d (a .may))
 
-  pub way-stepped : {d x y : ℕ} → Way w h ground d x y → Stepped w h x d y
-  way-stepped {d} {x} a = rw (a .lands) at (ahead-is w h x d (allowed-on w h ground x d (a .may)))
+  pub leg-stepped : {d x y : ℕ} → Leg w h ground d x y → Stepped w h x d y
+  leg-stepped {d} {x} a = rw (a .lands) at (ahead-is w h x d (allowed-on w h ground x d (a .may)))
 
-  pub way-low : {d x y : ℕ} → Way w h ground d x y → 1 ≤ d
-  way-low a = stepped-low (way-stepped a)
+  pub leg-low : {d x y : ℕ} → Leg w h ground d x y → 1 ≤ d
+  leg-low a = stepped-low (leg-stepped a)
 
-  pub way-high : {d x y : ℕ} → Way w h ground d x y → d ≤ 4
-  way-high a = stepped-high (way-stepped a)
+  pub leg-high : {d x y : ℕ} → Leg w h ground d x y → d ≤ 4
+  leg-high a = stepped-high (leg-stepped a)
 
-  pub way-behind : {d x y : ℕ} → 0 < w → Way w h ground d x y → behind w h y d ≡ x
-  way-behind p a = stepped-ahead (stepped-back p (a .inside) (way-stepped a))
+  pub leg-behind : {d x y : ℕ} → 0 < w → Leg w h ground d x y → behind w h y d ≡ x
+  leg-behind p a = stepped-ahead (stepped-back p (a .inside) (leg-stepped a))
 
   -- steps go both ways
   pub adj-back : {x y : ℕ} → 0 < w → Adj w h ground x y → Adj w h ground y x
   adj-back {x} {y} p a =
-      let e = way-behind p (a .way) in
-      let i : ahead w h y (opposite (a .dir)) < cells w h = rw e (a .way .inside) in
-      let f : free ground (ahead w h y (opposite (a .dir))) ≡ true = rw e (way-here (a .way)) in
+      let e = leg-behind p (a .leg) in
+      let i : ahead w h y (opposite (a .dir)) < cells w h = rw e (a .leg .inside) in
+      let f : free ground (ahead w h y (opposite (a .dir))) ≡ true = rw e (leg-here (a .leg)) in
       record {
         dir = opposite (a .dir);
-        way = record {
-          inside = way-inside (a .way);
-          may = allow w h ground y (opposite (a .dir)) (way-free (a .way)) i f;
+        leg = record {
+          inside = leg-inside (a .leg);
+          may = allow w h ground y (opposite (a .dir)) (leg-free (a .leg)) i f;
           lands = e;
         };
       }
 
   pub adj-inside : (x y : ℕ) → Adj w h ground x y → y < cells w h
-  adj-inside x y a = way-inside (a .way)
+  adj-inside x y a = leg-inside (a .leg)
 
   pub adj-free : (x y : ℕ) → Adj w h ground x y → free ground y ≡ true
-  adj-free x y a = way-free (a .way)
+  adj-free x y a = leg-free (a .leg)

@@ -19,7 +19,7 @@ use Rattle.plot.specs.declared.Verdict.{Verdict}
 use Rattle.plot.specs.declared.Verdict.the-variants.{Accepted, Refused}
 use Rattle.plot.specs.declared.Changed.{Changed}
 use Rattle.plot.proofs.Turns.{length-filled, filled-at}
-use Rattle.plot.proofs.Geometry.{way-stepped, way-inside}
+use Rattle.plot.proofs.Geometry.{leg-stepped, leg-inside}
 use Rattle.plot.proofs.Fit.{Room, Placed, Held}
 use Rattle.plot.proofs.Soundness.{consistent-close}
 use Rattle.plot.proofs.Accepting.{not-both, room-lent, both-on, place, fits-passed, held-accepts}
@@ -66,7 +66,7 @@ module _ (w h start goal : ℕ) (p : Lent) where
 
     fresh-consistent : Consistent (Adj w h (fresh w h goal p .ground)) (λ x. getD (fresh w h goal p .learned) x 0)
     fresh-consistent x y a =
-        omega (arith, step-near goal (r .wide) (way-stepped (a .way)), fresh-learned x (a .way .inside), fresh-learned y (way-inside (a .way)))
+        omega (arith, step-near goal (r .wide) (leg-stepped (a .leg)), fresh-learned x (a .leg .inside), fresh-learned y (leg-inside (a .leg)))
 
     pub fresh-held : Held (headAt w h goal start) (fresh w h goal p)
     unfolding fresh

@@ -15,6 +15,7 @@ pub mod Order
 pub mod Expansions
 pub mod Searching
 pub mod Beginning
+pub mod Unseen
 pub mod Learning
 pub mod Trailing
 pub mod Planning

@@ -4,7 +4,7 @@ use mathlib.Core.Path.{_≡_, refl}
 use mathlib.Core.Logic.{_↔_}
 use mathlib.Core.Bool.{true, not}
 use mathlib.Core.List.{List, []}
-use Prim.Native.Nat.{ℕ, zero, suc, _+_, _≤_}
+use Prim.Native.Nat.{ℕ, zero, suc, _+_, _≤_, _<_}
 use native.Mathlib.Omega.{arith}
 use borrow.Author.Tests.{ltb-false, not-false}
 use lib.ListN.{length, getD, take}
@@ -35,6 +35,13 @@ cells-first : (w h : ℕ) (link : List ℕ) (v c : ℕ) → getD (cellsFrom w h 
 unfolding cellsFrom
 cells-first w h link zero c = refl
 cells-first w h link (suc v) c = refl
+
+-- each cell after the first is the one to which the cell before links
+cells-linked : (w h : ℕ) (link : List ℕ) (v c i : ℕ) → i < v → getD (cellsFrom w h link v c) (suc i) 0 ≡ next w h link (getD (cellsFrom w h link v c) i 0)
+unfolding cellsFrom
+cells-linked w h link zero c i l = absurd (omega arith)
+cells-linked w h link (suc v) c zero l = cells-first w h link v (next w h link c)
+cells-linked w h link (suc v) c (suc i) l = cells-linked w h link v (next w h link c) i (omega arith)
 
 -- where a route of v links stands, the last of its cells is the goal
 cells-last : {w h goal : ℕ} (p : Lent) {c v : ℕ} → RouteOn w h goal p c v → getD (cellsFrom w h (p .link) v c) v 0 ≡ goal
@@ -75,6 +82,9 @@ module _ (head : Head) (p : Lent) (buffer : List ℕ) where
     -- one cell more than steps: never empty
     pub long : length (r .front) ≡ getD (p .learned) (head .cell) 0 + 1
     pub from-cart : getD (r .front) 0 0 ≡ head .cell
+    -- by links ..
+    pub by-links : (i : ℕ) → i < getD (p .learned) (head .cell) 0 → getD (r .front) (suc i) 0 ≡ next (head .width) (head .height) (p .link) (getD (r .front) i 0)
+    -- .. to the goal
     pub to-goal : getD (r .front) (getD (p .learned) (head .cell) 0) 0 ≡ head .goal
     -- the front is the buffer's own, and what stands behind it stays
     pub in-front : take (length (r .front)) (r .buffer) ≡ r .front
@@ -86,6 +96,7 @@ module _ (head : Head) (p : Lent) (buffer : List ℕ) where
   written a t fits = record {
     long = cells-long (head .width) (head .height) (p .link) (getD (p .learned) (head .cell) 0) (head .cell);
     from-cart = cells-first (head .width) (head .height) (p .link) (getD (p .learned) (head .cell) 0) (head .cell);
+    by-links = cells-linked (head .width) (head .height) (p .link) (getD (p .learned) (head .cell) 0) (head .cell);
     to-goal = cells-last p (leads-stands p (a .fit) (head .cell) (a .placed .cart-on) t);
     in-front = fronted-front (route head p) buffer;
     behind = λ x. fronted-rest (route head p) buffer x 0;

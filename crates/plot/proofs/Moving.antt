@@ -24,7 +24,7 @@ use Rattle.plot.specs.declared.Verdict.{Verdict}
 use Rattle.plot.specs.declared.Verdict.the-variants.{Accepted, Refused}
 use Rattle.plot.specs.declared.Step.{Step}
 use Rattle.plot.specs.declared.Moved.{Moved}
-use Rattle.plot.proofs.Geometry.{way-inside, way-free}
+use Rattle.plot.proofs.Geometry.{leg-inside, leg-free}
 use Rattle.plot.proofs.Fit.{Linked, Held}
 use Rattle.plot.proofs.Accepting.{not-both, accepts-held, held-accepts}
 use Rattle.plot.proofs.Views.{at, Link}
@@ -105,12 +105,12 @@ module _ (head : Head) (p : Lent) (a : Held head p) (d : head .cell ≢ head .go
       high = a .placed .high;
       few = a .placed .few;
       goal-on = a .placed .goal-on;
-      cart-on = way-inside next-way;
+      cart-on = leg-inside next-way;
     };
     room = record { grounds = a .room .grounds; learneds = a .room .learneds; links = rw length-set (a .room .links) };
     fit = record {
       ground = a .fit .ground;
-      cart = way-free next-way;
+      cart = leg-free next-way;
       learned = a .fit .learned;
       zero-there = a .fit .zero-there;
       close = a .fit .close;

@@ -151,13 +151,6 @@ module _ (bytes : List ℕ) (q : Lent) where
     pub load-long : length bytes ≡ recordLength (cellsOf (headOf bytes))
     load-long = ap length (sym saved-again) ∙ record-long (headOf bytes) _ (load-held .room)
 
--- "Length at N = 4,096: 12,827; at N = 1: 31"
-pub shortest-record : recordLength 1 ≡ 31
-shortest-record = refl
-
-pub longest-record : recordLength 4096 ≡ 12827
-longest-record = refl
-
 -- "a state has one record": two that load accepts, with the same head and entries, are the same bytes.
 pub one-record : (bytes bytes′ : List ℕ) (q q′ : Lent) → loadCheck bytes q ≡ Accepted → loadCheck bytes′ q′ ≡ Accepted → headOf bytes ≡ headOf bytes′
     → SameEntries (cellsOf (headOf bytes)) (readInto (cellsOf (headOf bytes)) bytes q) (readInto (cellsOf (headOf bytes′)) bytes′ q′)

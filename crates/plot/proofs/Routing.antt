@@ -19,7 +19,7 @@ use Rattle.plot.specs.Lent.{Lent}
 use Rattle.plot.specs.Route.{next, leads, leadsFrom}
 use Rattle.plot.specs.Ways.{Adj}
 use Rattle.plot.proofs.Fit.{Fit}
-use Rattle.plot.proofs.Geometry.{none-ahead, way-inside}
+use Rattle.plot.proofs.Geometry.{none-ahead, leg-inside}
 use Rattle.plot.proofs.Soundness.{fit-consistent}
 use Rattle.plot.proofs.Views.{at, Link}
 
@@ -90,13 +90,13 @@ module _ {w h goal cell : ℕ} (p : Lent) (f : Fit w h goal cell p) where
 route-some : (w h goal : ℕ) (p : Lent) → getD (p .learned) goal 0 ≡ 0 → {c n : ℕ} → RouteOn w h goal p c n → leads w h goal (p .learned) (p .link) n c ≡ true
 route-some w h goal p z arrived = leads-goal w h goal (p .learned) (p .link) 0
 route-some w h goal p z (follow {x = x} {y = y} {n = n} k e r) =
-    on-leads w h goal (p .learned) (p .link) n x (rw (k .lands) (way-inside k)) (rw (k .lands) (route-length z r)) (rw (k .lands) (route-some w h goal p z r))
+    on-leads w h goal (p .learned) (p .link) n x (rw (k .lands) (leg-inside k)) (rw (k .lands) (route-length z r)) (rw (k .lands) (route-some w h goal p z r))
 
 pub route-leads : (w h goal : ℕ) (p : Lent) → getD (p .learned) goal 0 ≡ 0 → {c n : ℕ} → RouteOn w h goal p c n → leadsFrom w h goal p c ≡ true
 route-leads w h goal p z r = rw (route-length z r) (route-some w h goal p z r)
 
 pub link-adj : (w h : ℕ) (ground link : List ℕ) (x y : ℕ) → Link w h ground link x y → Adj w h ground x y
-link-adj w h ground link x y k = record { dir = getD link x 0; way = k }
+link-adj w h ground link x y k = record { dir = getD link x 0; leg = k }
 
 -- A standing route has the fewest steps.
 pub route-fewest : {w h goal cell : ℕ} (p : Lent) → Fit w h goal cell p → {x n : ℕ} → RouteOn w h goal p x n → Fewest (Adj w h (p .ground)) x goal n

@@ -16,9 +16,6 @@ pub record SameEntries (n : ℕ) (p q : Lent) : Type 0 where
   pub learned : (c : ℕ) → c < n → getD (p .learned) c 0 ≡ getD (q .learned) c 0
   pub link : (c : ℕ) → c < n → getD (p .link) c 0 ≡ getD (q .link) c 0
 
-pub same-back : {n : ℕ} {p q : Lent} → SameEntries n p q → SameEntries n q p
-same-back e = record { ground = λ c i. sym (e .ground c i); learned = λ c i. sym (e .learned c i); link = λ c i. sym (e .link c i) }
-
 -- the same steps are allowed
 pub allowed-same : (w h : ℕ) (p q : Lent) → ((c : ℕ) → c < cells w h → getD (p .ground) c 0 ≡ getD (q .ground) c 0) → (c d : ℕ) → c < cells w h → allowed w h (p .ground) c d ≡ true → allowed w h (q .ground) c d ≡ true
 allowed-same w h p q e c d i a =

@@ -19,7 +19,7 @@ use Rattle.plot.specs.Plot.{cells, free}
 use Rattle.plot.specs.Lent.{Lent, Scratch}
 use Rattle.plot.specs.Search.{unseenCost, expanded, Ended, stoppedAt, nothingWaits, first, run}
 use Rattle.plot.specs.Plan.{isExpanded, expandedCount}
-use Rattle.plot.specs.Ways.{Way, Adj}
+use Rattle.plot.specs.Ways.{Leg, Adj}
 use Rattle.plot.proofs.Turns.{tally-all, tally-more}
 use Rattle.plot.proofs.Geometry.{adj-inside, adj-free}
 use Rattle.plot.proofs.Fit.{Fit, Sized, Placed}
@@ -31,7 +31,7 @@ use Rattle.plot.proofs.Expansions.{expand-is, expand-sized}
 -- the theory's invariant of this search
 abbrev pub Holds : (w h cell : ℕ) → Lent → (stops : ℕ → Bool) → Scratch → Type 0
 Holds w h cell p stops s =
-    Search (Adj w h (p .ground)) (Way w h (p .ground)) (at (p .learned)) (λ x. stops x ≡ true) cell unseenCost (view (cells w h) s)
+    Search (Adj w h (p .ground)) (Leg w h (p .ground)) (at (p .learned)) (λ x. stops x ≡ true) cell unseenCost (view (cells w h) s)
 
 -- the search stopped at t
 pub record Stopped (w h cell : ℕ) (p : Lent) (stops : ℕ → Bool) (t : ℕ) (s : Scratch) : Type 0 where
@@ -111,7 +111,7 @@ module _ {w h goal cell : ℕ} (p : Lent) (stops : ℕ → Bool) (r : Placed w h
       goes : ¬ (stops x ≡ true)
       goes e = false≢true (sym open′ ∙ e)
 
-      step-is : Expansion (Adj w h (p .ground)) (Way w h (p .ground)) x (view (cells w h) s) (view (cells w h) (expanded w h (p .ground) x s))
+      step-is : Expansion (Adj w h (p .ground)) (Leg w h (p .ground)) x (view (cells w h) s) (view (cells w h) (expanded w h (p .ground) x s))
       step-is = expand-is w h (p .ground) x (t .below) s z
 
       room-above : at (s .cost) x + 1 < unseenCost

@@ -110,10 +110,10 @@ module _ (head : Head) (p : Lent) where
 
 -- SOUND DATA ARE CONSISTENT: along an allowed step the learned value falls by at most 1.
 pub fit-consistent : {w h goal cell : ℕ} {p : Lent} → Fit w h goal cell p → Consistent (Adj w h (p .ground)) (λ x. getD (p .learned) x 0)
-fit-consistent f x y a = rw (← a .way .lands) (omega (arith, f .close x (a .dir) (a .way .inside) (a .way .may)))
+fit-consistent f x y a = rw (← a .leg .lands) (omega (arith, f .close x (a .dir) (a .leg .inside) (a .leg .may)))
 
 -- and the other way round, since steps go both ways
 pub consistent-close : (w h : ℕ) (ground learned : List ℕ) → 0 < w → Consistent (Adj w h ground) (λ x. getD learned x 0) → Close w h ground learned
 consistent-close w h ground learned p k c d i a =
-    let s : Adj w h ground c (ahead w h c d) = record { dir = d; way = record { inside = i; may = a; lands = refl } } in
+    let s : Adj w h ground c (ahead w h c d) = record { dir = d; leg = record { inside = i; may = a; lands = refl } } in
     omega (arith, k c (ahead w h c d) s, k (ahead w h c d) c (adj-back p s))

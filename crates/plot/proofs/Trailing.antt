@@ -1,15 +1,16 @@
 -- The trail that a search leaves leads from the stop back to the cart's cell, in as many steps as the stop costs, and
 -- never leaves the plot. Along it the links are laid, and they make a route.
 -- Assumes nothing.
-use mathlib.Core.Path.{_≡_, refl, ap, _∙_}
+use mathlib.Core.Path.{_≡_, refl, sym, ap, _∙_}
 use mathlib.Core.Logic.{_≢_}
-use mathlib.Core.Bool.{true}
+use mathlib.Core.Bool.{Bool, true, false}
 use mathlib.Core.List.{List}
 use Prim.Native.Nat.{ℕ, zero, suc, _+_, _-_, _≤_, _<_}
 use native.Mathlib.Decide.{ℕ-discrete}
 use native.Mathlib.Nat.{add-zero}
 use native.Mathlib.Omega.{arith}
 use borrow.Author.Tests.{lt-ltb}
+use lib.Dec.{ltb}
 use lib.ListN.{length, getD, set, length-set}
 use lib.Seq.{getD-set-same, getD-set-other}
 use Rattle.walks.specs.Search.{Reached}
@@ -19,9 +20,9 @@ use Rattle.plot.specs.Lent.{Lent, Scratch}
 use Rattle.plot.specs.Route.{leadsFrom}
 use Rattle.plot.specs.Search.{total}
 use Rattle.plot.specs.Plan.{linked, improved}
-use Rattle.plot.specs.Ways.{Way, Adj}
+use Rattle.plot.specs.Ways.{Leg, Adj}
 use Rattle.plot.proofs.Turns.{length-filled}
-use Rattle.plot.proofs.Geometry.{way-behind}
+use Rattle.plot.proofs.Geometry.{leg-behind}
 use Rattle.plot.proofs.Fit.{Linked, Fit, Room, Placed}
 use Rattle.plot.proofs.Soundness.{consistent-close}
 use Rattle.plot.proofs.Views.{at, Link, markIn, view, seen-inside}
@@ -35,6 +36,31 @@ backFrom w h trail c zero = c
 backFrom w h trail c (suc k) =
     let b = backFrom w h trail c k in
     behind w h b (getD trail b 0)
+
+-- one step back first
+back-shift : (w h : ℕ) (trail : List ℕ) (c k : ℕ) → backFrom w h trail (behind w h c (getD trail c 0)) k ≡ backFrom w h trail c (suc k)
+unfolding backFrom
+back-shift w h trail c zero = refl
+back-shift w h trail c (suc k) = ap (λ (b : ℕ). behind w h b (getD trail b 0)) (back-shift w h trail c k)
+
+-- OTHER LINKS STAY: where x is none of the cells before c on the trail, its link is what it was.
+pub linked-other : (w h : ℕ) (trail : List ℕ) (v c : ℕ) (link : List ℕ) (x : ℕ) → ((k : ℕ) → k < v → backFrom w h trail c (suc k) ≢ x) → getD (linked w h trail v c link) x 0 ≡ getD link x 0
+unfolding linked backFrom
+linked-other w h trail zero c link x off = refl
+linked-other w h trail (suc v) c link x off = go (ltb (behind w h c (getD trail c 0)) (cells w h)) (linked-other w h trail v)
+  where
+    first : x ≢ behind w h c (getD trail c 0)
+    first e = off 0 (omega arith) (sym e)
+
+    go : (b : Bool) → ((c : ℕ) (link : List ℕ) (x : ℕ) → ((k : ℕ) → k < v → backFrom w h trail c (suc k) ≢ x) → getD (linked w h trail v c link) x 0 ≡ getD link x 0)
+        → getD (elim b [
+          | true ↦ linked w h trail v (behind w h c (getD trail c 0)) (set link (behind w h c (getD trail c 0)) (getD trail c 0))
+          | false ↦ link
+        ]) x 0 ≡ getD link x 0
+    go true rest =
+        rest _ _ x (λ k l e. off (suc k) (omega arith) (sym (back-shift w h trail c (suc k)) ∙ e))
+        ∙ getD-set-other link (behind w h c (getD trail c 0)) x (getD trail c 0) 0 first
+    go false rest = refl
 
 -- each link that is not 0 is an allowed step
 abbrev AllLinked : (w h goal : ℕ) (ground link : List ℕ) → Type 0
@@ -60,7 +86,7 @@ linked-turn w h trail v c b link e on = rw (e, lt-ltb b (cells w h) on, linked) 
 module _ {w h goal cell : ℕ} (p : Lent) (r : Placed w h goal cell) (m : Room (cells w h) p) (f : Fit w h goal cell p)
     (t : ℕ) (s : Scratch) (e : Stopped w h cell p (leadsFrom w h goal p) t s) where
   -- a seen cell that costs something was reached from one that costs one less; the cart's cell alone costs nothing
-  came-from : (x k : ℕ) → 1 ≤ markIn (cells w h) (s .mark) x → at (s .cost) x ≡ suc k → Reached (Adj w h (p .ground)) (Way w h (p .ground)) (view (cells w h) s) x
+  came-from : (x k : ℕ) → 1 ≤ markIn (cells w h) (s .mark) x → at (s .cost) x ≡ suc k → Reached (Adj w h (p .ground)) (Leg w h (p .ground)) (view (cells w h) s) x
   came-from x k seen v = e .holds .reached x seen (λ z. absurd (omega (arith, ap (at (s .cost)) z, e .holds .origin)))
 
   came-first : (x : ℕ) → 1 ≤ markIn (cells w h) (s .mark) x → at (s .cost) x ≡ 0 → x ≡ cell
@@ -84,7 +110,7 @@ module _ {w h goal cell : ℕ} (p : Lent) (r : Placed w h goal cell) (m : Room (
       go b =
           let c = backFrom w h (s .trail) t k in
           let q = came-from c (at (s .cost) t - suc k) (b .seen) (omega (arith, b .cheaper)) in
-          let a = way-behind (r .wide) (q .by) in
+          let a = leg-behind (r .wide) (q .by) in
           record { seen = rw a (omega (arith, q .expanded)); cheaper = rw a (omega (arith, q .dearer, b .cheaper)) }
 
   -- It stays on the plot, and leads back to the cart's cell.
@@ -103,7 +129,7 @@ module _ {w h goal cell : ℕ} (p : Lent) (r : Placed w h goal cell) (m : Room (
     all : AllLinked w h goal (p .ground) link
 
   -- one step back
-  lay-back : (x n : ℕ) (link : List ℕ) → Laying link x n → (q : Reached (Adj w h (p .ground)) (Way w h (p .ground)) (view (cells w h) s) x) → Laying (set link (q .prev) (at (s .trail) x)) (q .prev) (suc n)
+  lay-back : (x n : ℕ) (link : List ℕ) → Laying link x n → (q : Reached (Adj w h (p .ground)) (Leg w h (p .ground)) (view (cells w h) s) x) → Laying (set link (q .prev) (at (s .trail) x)) (q .prev) (suc n)
   lay-back x n link l q =
       let i = seen-inside (cells w h) (s .mark) (q .prev) (omega (arith, q .expanded)) in
       let away : q .prev ≢ goal = λ z. e .holds .going (q .prev) (q .expanded) (rw z (goal-halts w h goal p)) in
@@ -122,7 +148,7 @@ module _ {w h goal cell : ℕ} (p : Lent) (r : Placed w h goal cell) (m : Room (
       let q = came-from x k (l .laid .seen) v in
       let i = seen-inside (cells w h) (s .mark) (q .prev) (omega (arith, q .expanded)) in
       let j : n + suc k ≡ suc n + k = omega arith in
-      rw (linked-turn w h (s .trail) k x (q .prev) link (way-behind (r .wide) (q .by)) i, j)
+      rw (linked-turn w h (s .trail) k x (q .prev) link (leg-behind (r .wide) (q .by)) i, j)
       (lay-is k (q .prev) (suc n) (set link (q .prev) (at (s .trail) x)) (omega (arith, q .dearer)) (lay-back x n link l q))
 
   laying : Laying (improved w h p t s .link) cell (at (p .learned) t + at (s .cost) t)

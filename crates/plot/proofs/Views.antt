@@ -13,14 +13,14 @@ use lib.ListN.{length, getD, set}
 use lib.Seq.{getD-set-same, getD-set-other}
 use Rattle.walks.specs.Search.{State}
 use Rattle.plot.specs.Lent.{Scratch}
-use Rattle.plot.specs.Ways.{Way}
+use Rattle.plot.specs.Ways.{Leg}
 
 abbrev pub at : List ℕ → ℕ → ℕ
 at l x = getD l x 0
 
 -- the link of x points to y
 abbrev pub Link : (w h : ℕ) (ground link : List ℕ) (x y : ℕ) → Type 0
-Link w h ground link x y = Way w h ground (getD link x 0) x y
+Link w h ground link x y = Leg w h ground (getD link x 0) x y
 
 -- the mark of a cell of the plot; what lies beyond the plot is unseen
 unfoldable pub markIn : (n : ℕ) (mark : List ℕ) (x : ℕ) → ℕ

@@ -10,7 +10,7 @@ use Rattle.plot.specs.Plot.{badSides, ahead, allowed, distance}
 use Rattle.plot.specs.Lent.{Lent, Scratch, lentWith, scratchWith}
 use Rattle.plot.specs.Head.{cellsOf}
 use Rattle.plot.specs.Sound.{groundSound, learnedSound, stepClose, cellClose, neighboursClose, linkEntry, linksSound, sound}
-use Rattle.plot.specs.Route.{leads}
+use Rattle.plot.specs.Route.{leads, cellsFrom, route}
 use Rattle.plot.specs.Numbers.{verdictNumber, stepVerdict, saveAnswer}
 use Rattle.plot.specs.Refusals.{fits, check}
 use Rattle.plot.specs.Layout.{layoutCheck, fresh, laidOut}
@@ -20,9 +20,27 @@ use Rattle.plot.specs.Plan.{planCheck, searched, expandedCount, lesson, 
 use Rattle.plot.specs.Move.{moved}
 use Rattle.plot.specs.Record.{lowBits, groundByte, learnedBytes, recordOf, recordLength, headOf, groundIn, learnedIn, linkIn, readInto, same, sidesFormed, formed}
 use Rattle.plot.specs.Store.{saveCheck, saved, loadCheck, loaded}
+use Rattle.plot.specs.Listing.{listCheck, listed, listNumber}
+use Rattle.plot.specs.Controller.{onRecord, reportedC, plannedC, movedC}
 use Rattle.plot.specs.declared.Head.{Head}
 use Rattle.plot.specs.declared.Outcome.{Outcome}
 use Rattle.plot.specs.declared.Step.{Step}
+
+-- to unfold this is to unfold every definition that the examples compute with
+unfoldable pub definitions : ℕ
+unfolding every tally filled gathered
+    badSides ahead allowed distance
+    groundSound learnedSound stepClose cellClose neighboursClose linkEntry linksSound sound
+    leads cellsFrom route
+    fits check layoutCheck fresh laidOut
+    reportCheck linkOnceBlocked linksOnceBlocked blocked reported
+    begun smallerFirst earlier sooner best looked expanded run
+    planCheck searched expandedCount lesson linked improved concluded planned
+    moved listCheck listed listNumber
+    lowBits groundByte learnedBytes recordOf headOf groundIn learnedIn linkIn readInto same sidesFormed formed
+    saveCheck saved loadCheck loaded
+    onRecord reportedC plannedC movedC
+definitions = 0
 
 pub data Call : Type 0 where
   report : (cell : ℕ) → Call
@@ -116,19 +134,7 @@ look s (save-gives n l) =
 look s (load-gives n l) = load-gives (verdictNumber (loaded l (roomy 3) .answer .verdict)) l
 look s (length-at n l) = length-at n (recordLength n)
 
--- what is seen, computed; to unfold this is to unfold every definition that it computes with
-unfoldable pub asIs : Example → List Seen
-unfolding every tally filled gathered
-    badSides ahead allowed distance
-    groundSound learnedSound stepClose cellClose neighboursClose linkEntry linksSound sound
-    leads
-    fits check layoutCheck fresh laidOut
-    reportCheck linkOnceBlocked linksOnceBlocked blocked reported
-    begun smallerFirst earlier sooner best looked expanded run
-    planCheck searched expandedCount lesson linked improved concluded planned
-    moved
-    lowBits groundByte learnedBytes recordOf headOf groundIn learnedIn linkIn readInto same sidesFormed formed
-    saveCheck saved loadCheck loaded
+abbrev pub asIs : Example → List Seen
 asIs e = map (look (callAll (begin e) (e .calls))) (e .seen)
 
 abbrev pub asExpected : Example → List Seen
@@ -219,5 +225,5 @@ table =
 
 -- What is seen in each example is what document 01 expects.
 pub examples : map asIs table ≡ map asExpected table
-unfolding table on asIs
+unfolding table on definitions
 examples = refl

@@ -19,4 +19,5 @@ pub mod Record
 pub mod Controller
 pub mod Examples
 pub mod Shortcuts
+pub mod Edges
 pub mod Ways

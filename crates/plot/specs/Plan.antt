@@ -48,7 +48,7 @@ unfoldable pub lesson : (length : ℕ) (learned mark cost : List ℕ) (x : ℕ) 
 lesson length learned mark cost x = cond (isExpanded mark x) (length - getD cost x 0) (getD learned x 0)
 
 -- "links are set along the trail from the cart's cell to s; other links stay": back from c, whose cost is v. The test
--- keeps a trail that no search left on the plot; a search's trail never leaves it (proofs/Trailing, `trail-leads-back`)
+-- keeps a trail that no search left on the plot; a search's trail never leaves it (proofs/Trailing, `trail-stays`)
 unfoldable pub linked : (w h : ℕ) (trail : List ℕ) (v c : ℕ) → List ℕ → List ℕ
 linked w h trail zero c link = link
 linked w h trail (suc v) c link =

@@ -10,8 +10,8 @@ use Rattle.plot.specs.Refusals.{acceptance}
 use Rattle.plot.specs.declared.Head.{Head}
 use Rattle.plot.specs.declared.Verdict.the-variants.{Accepted}
 
--- an allowed step in direction d leads from cell x of the plot to y
-pub record Way (w h : ℕ) (ground : List ℕ) (d x y : ℕ) : Type 0 where
+-- one leg of a way: an allowed step in direction d leads from cell x of the plot to y
+pub record Leg (w h : ℕ) (ground : List ℕ) (d x y : ℕ) : Type 0 where
   pub inside : x < cells w h
   pub may : allowed w h ground x d ≡ true
   pub lands : ahead w h x d ≡ y
@@ -19,7 +19,7 @@ pub record Way (w h : ℕ) (ground : List ℕ) (d x y : ℕ) : Type 0 where
 -- in some direction one does
 pub record Adj (w h : ℕ) (ground : List ℕ) (x y : ℕ) : Type 0 where
   pub dir : ℕ
-  pub way : Way w h ground dir x y
+  pub leg : Leg w h ground dir x y
 
 -- the data are accepted
 abbrev pub Accepts : Head → Lent → Type 0

@@ -2,7 +2,7 @@
 // The definitions that say what the calls do stand in specs/, in document 01's order; their laws stand in proofs/.
 
 ghost use mathlib.Core.Path.{_≡_};
-ghost use Prim.Native.Nat.{_*_};
+ghost use Rattle.plot.specs.Plot.{maxCells, badSide};
 ghost use Rattle.plot.specs.Numbers.{reasonNumber};
 ghost use Rattle.plot.specs.Head.{headAt, noHead, movedTo, aimedAt};
 
@@ -19,6 +19,20 @@ impl Head {
     pub const MAX_SIDE: usize = 64;
 
     pub const MAX_CELLS: usize = 4096;
+
+    // A side is 0 or above the largest.
+    pub fn bad_side(side: usize) -> bool
+        ensures { λ r. ⌜ r ≡ badSide side ⌝ }
+    {
+        (side == 0) | (Self::MAX_SIDE < side)
+    }
+
+    // The cells for which a call holds room of its own.
+    pub fn room() -> usize
+        ensures { λ r. ⌜ r ≡ maxCells ⌝ }
+    {
+        Self::MAX_CELLS
+    }
 
     pub fn new(width: usize, height: usize, goal: usize, cell: usize) -> Self
         ensures { λ r. ⌜ r ≡ headAt width height goal cell ⌝ }

@@ -10,7 +10,7 @@ ghost use Rattle.queue.specs.Queue.{Absent, Waits, Lowered};
 ghost use Rattle.search.specs.Waiting.{seenAt, Held, Did};
 
 // The cell beside c in direction d, or n; col is c's column. One division serves the four directions.
-fn beside(width: usize, height: usize, n: usize, c: usize, col: usize, d: u8) -> usize
+pub fn beside(width: usize, height: usize, n: usize, c: usize, col: usize, d: u8) -> usize
     requires { ⌜ (n ≡ cells width height) × (c < n) × (n ≤ 65535) × (width ≤ n) × (col ≡ c % width) ⌝ }
     ensures { λ r. ⌜ r ≡ ahead width height c d ⌝ }
 {

@@ -1,0 +1,180 @@
+// Whether the data are sound, by flat passes over all cells that LLVM vectorises: no exit and no branch in a loop. A pass
+// looks at neighbouring places of the buffers; where a row ends between them, a mark takes the pair out.
+use plot::Head;
+ghost use mathlib.Core.Path.{_≡_};
+ghost use Prim.Native.Nat.{_+_, _*_, _≤_, _<_};
+ghost use lib.ListN.{length};
+ghost use lib.Dec.{leb};
+ghost use Rattle.plot.specs.Turns.{every};
+ghost use Rattle.plot.specs.Plot.{gap};
+ghost use Rattle.plot.specs.Lent.{lentWith};
+ghost use Rattle.plot.specs.Sound.{sound};
+ghost use Rattle.sound.specs.Given.{Given};
+ghost use Rattle.sound.specs.Flat.{cellTest, cellAt, smallAt, pairTest, rightAt, belowAt, edgeTest, edgeAt, flat, Spread, Clear, Marked};
+
+// A cell's own bytes: ground is 0 or 1, the link at most 4, and one of them 0.
+fn cell_ok(g: u8, k: u8) -> bool
+    ensures { λ r. ⌜ r ≡ cellTest g k ⌝ }
+{
+    (g <= 1) & ((k <= 4) & ((k == 0) | (g == 0)))
+}
+
+fn cells_ok(ground: &[u8], link: &[u8], n: usize) -> bool
+    requires { ⌜ (n ≤ length (now ground)) × (n ≤ length (now link)) ⌝ }
+    ensures { λ r. ⌜ r ≡ every n (cellAt (now (ground .entry)) (now (link .entry))) ⌝ }
+{
+    let mut ok = true;
+    let mut i = 0;
+    while i < n {
+        ok = ok & cell_ok(ground[i], link[i]);
+        i += 1;
+    }
+    ok
+}
+
+// Each learned value is at most top. The bound is as wide as the values, so that they are compared as they lie.
+fn small_ok(learned: &[u16], top: u16, n: usize) -> bool
+    requires { ⌜ n ≤ length (now learned) ⌝ }
+    ensures { λ r. ⌜ r ≡ every n (smallAt top (now (learned .entry))) ⌝ }
+{
+    let mut ok = true;
+    let mut i = 0;
+    while i < n {
+        ok = ok & (learned[i] <= top);
+        i += 1;
+    }
+    ok
+}
+
+// Two learned values differ by at most 1.
+fn close_ok(a: u16, b: u16) -> bool
+    ensures { λ r. ⌜ r ≡ leb (gap a b) 1 ⌝ }
+{
+    if b < a { a - b <= 1 } else { b - a <= 1 }
+}
+
+// Cells a and b, where direction `to` leads from a to b and `from` back, and e is 0 unless a row ends between them.
+fn pair_ok(ga: u8, gb: u8, e: u8, la: u16, lb: u16, ka: u8, kb: u8, to: u8, from: u8) -> bool
+    ensures { λ r. ⌜ r ≡ pairTest ga gb e la lb ka kb to from ⌝ }
+{
+    ((0 < ga) | ((0 < gb) | ((0 < e) | close_ok(la, lb))))
+        & (((ka != to) | ((gb == 0) & (e == 0))) & ((kb != from) | ((ga == 0) & (e == 0))))
+}
+
+// The pairs of a cell and the next one; end is not 0 at the last cell of a row.
+fn rights_ok(ground: &[u8], learned: &[u16], link: &[u8], end: &[u8], n: usize) -> bool
+    requires { ⌜ (n + 1 ≤ length (now ground)) × (n + 1 ≤ length (now learned)) × (n + 1 ≤ length (now link)) × (n ≤ length (now end)) ⌝ }
+    ensures { λ r. ⌜ r ≡ every n (rightAt (now (ground .entry)) (now (learned .entry)) (now (link .entry)) (now (end .entry))) ⌝ }
+{
+    let mut ok = true;
+    let mut i = 0;
+    while i < n {
+        ok = ok
+            & pair_ok(
+                ground[i],
+                ground[i + 1],
+                end[i],
+                learned[i],
+                learned[i + 1],
+                link[i],
+                link[i + 1],
+                1,
+                3,
+            );
+        i += 1;
+    }
+    ok
+}
+
+// The pairs of a cell and the one below it.
+fn belows_ok(ground: &[u8], learned: &[u16], link: &[u8], w: usize, n: usize) -> bool
+    requires { ⌜ (n + w ≤ length (now ground)) × (n + w ≤ length (now learned)) × (n + w ≤ length (now link)) ⌝ }
+    ensures { λ r. ⌜ r ≡ every n (belowAt w (now (ground .entry)) (now (learned .entry)) (now (link .entry))) ⌝ }
+{
+    let mut ok = true;
+    let mut i = 0;
+    while i < n {
+        ok = ok
+            & pair_ok(
+                ground[i],
+                ground[i + w],
+                0,
+                learned[i],
+                learned[i + w],
+                link[i],
+                link[i + w],
+                2,
+                4,
+            );
+        i += 1;
+    }
+    ok
+}
+
+// No link leads up from the first row, or down from the last.
+fn edge_ok(first: u8, last: u8) -> bool
+    ensures { λ r. ⌜ r ≡ edgeTest first last ⌝ }
+{
+    (first != 4) & (last != 2)
+}
+
+fn edges_ok(link: &[u8], low: usize, w: usize) -> bool
+    requires { ⌜ low + w ≤ length (now link) ⌝ }
+    ensures { λ r. ⌜ r ≡ every w (edgeAt low (now (link .entry))) ⌝ }
+{
+    let mut ok = true;
+    let mut i = 0;
+    while i < w {
+        ok = ok & edge_ok(link[i], link[low + i]);
+        i += 1;
+    }
+    ok
+}
+
+// Writes 1 at the last cell of each of h rows.
+fn mark_ends(end: &mut [u8], w: usize, h: usize)
+    requires { ⌜ (0 < w) × (h * w ≤ length (now end)) × Clear (now end) ⌝ }
+    ensures { λ _. ⌜ Marked w h (now (end .exit)) ⌝ }
+{
+    let mut row = 0;
+    let mut at = w - 1;
+    while row < h {
+        end[at] = 1;
+        row += 1;
+        at += w;
+    }
+}
+
+// All the tests, given the marks of the rows' ends.
+fn flags(
+    ground: &[u8],
+    learned: &[u16],
+    link: &[u8],
+    end: &[u8],
+    w: usize,
+    n: usize,
+    goal: usize,
+    cell: usize,
+) -> bool
+    requires { ⌜ Spread w n goal cell (now ground) (now learned) (now link) (now end) ⌝ }
+    ensures { λ r. ⌜ r ≡ flat w n goal cell (now (ground .entry)) (now (learned .entry)) (now (link .entry)) (now (end .entry)) ⌝ }
+{
+    let own = cells_ok(ground, link, n) & small_ok(learned, (n - 1) as u16, n);
+    let pairs = rights_ok(ground, learned, link, end, n - 1)
+        & belows_ok(ground, learned, link, w, n - w);
+    let edges = edges_ok(link, n - w, w) & ((link[0] != 3) & (link[n - 1] != 1));
+    let here = (ground[cell] == 0) & ((learned[goal] == 0) & (link[goal] == 0));
+    (own & pairs) & (edges & here)
+}
+
+// Whether the data are sound.
+pub fn is_sound(head: Head, ground: &[u8], learned: &[u16], link: &[u8]) -> bool
+    requires { ⌜ Given head (now ground) (now learned) (now link) ⌝ }
+    ensures { λ r. ⌜ r ≡ sound head (lentWith (now (ground .entry)) (now (learned .entry)) (now (link .entry))) ⌝ }
+{
+    let w = head.width;
+    let h = head.height;
+    let mut end: [u8; Head::MAX_CELLS] = [0; Head::MAX_CELLS];
+    mark_ends(&mut end, w, h);
+    flags(ground, learned, link, &end, w, w * h, head.goal, head.cell)
+}
