@@ -4,3 +4,4 @@
 pub mod begin;
 pub mod expand;
 pub mod learn;
+pub mod stop;

@@ -1,0 +1,48 @@
+// The stop test with its memory: a cell once walked without reaching the goal never leads there during this search, since
+// links and learned values stay. So all stop tests of one search together walk each cell once.
+use crate::expand::beside;
+ghost use mathlib.Core.Path.{_≡_};
+ghost use Prim.Native.Nat.{_<_, _≤_};
+ghost use lib.ListN.{length, getD};
+ghost use Rattle.plot.specs.Plot.{cells};
+ghost use Rattle.plot.specs.Route.{leads};
+ghost use Rattle.search.specs.Gone.{Gone, Tested, Testable};
+
+// Whether links lead from c to the goal with the learned value falling by exactly 1 at each step. Cells walked are marked
+// in gone; where the goal is reached the search is over, and the marks with it.
+pub fn leads(
+    width: usize,
+    height: usize,
+    n: usize,
+    goal: usize,
+    learned: &[u16],
+    link: &[u8],
+    gone: &mut [u8],
+    c: usize,
+) -> bool
+    requires { ⌜ Testable width height n c (now learned) (now link) (now gone) ⌝ }
+    requires { ⌜ Gone width height goal (now learned) (now link) (now gone) ⌝ }
+    ensures { λ r. ⌜ Tested width height goal (now (learned .entry)) (now (link .entry)) c r (now (gone .exit)) ⌝ }
+{
+    let mut at = c;
+    let mut left = learned[c];
+    while at != goal {
+        if left == 0 {
+            return false;
+        }
+        if gone[at] != 0 {
+            return false;
+        }
+        gone[at] = 1;
+        let next = beside(width, height, n, at, at % width, link[at]);
+        if n <= next {
+            return false;
+        }
+        if learned[next] != left - 1 {
+            return false;
+        }
+        at = next;
+        left = left - 1;
+    }
+    true
+}
