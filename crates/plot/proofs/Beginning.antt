@@ -56,19 +56,19 @@ module _ (w h cell : ℕ) (ground : List ℕ) (s : Scratch) (z : Sized (cells w 
   }
 
   -- nothing is expanded yet
+  pub begun-open : (x : ℕ) → x < cells w h → getD (begun (cells w h) cell s .mark) x 0 ≢ 2
+  begun-open x l e = go (ℕ-discrete x cell)
+    where
+      m : markIn (cells w h) (begun (cells w h) cell s .mark) x ≡ 2
+      m = mark-on (cells w h) (begun (cells w h) cell s .mark) x l ∙ e
+
+      go : Dec (x ≡ cell) → ⊥
+      go (yes q) = omega (arith, m, begun-is .waits, ap (markIn (cells w h) (begun (cells w h) cell s .mark)) q)
+      go (no d) = omega (arith, m, begun-is .blank x d)
+
   pub begun-none : expandedCount (cells w h) (begun (cells w h) cell s .mark) ≡ 0
   unfolding expandedCount
-  begun-none = tally-none (cells w h) _ (λ x l. ne-eqb _ 2 (not-two x l))
-    where
-      not-two : (x : ℕ) → x < cells w h → getD (begun (cells w h) cell s .mark) x 0 ≢ 2
-      not-two x l e = go (ℕ-discrete x cell)
-        where
-          m : markIn (cells w h) (begun (cells w h) cell s .mark) x ≡ 2
-          m = mark-on (cells w h) (begun (cells w h) cell s .mark) x l ∙ e
-
-          go : Dec (x ≡ cell) → ⊥
-          go (yes q) = omega (arith, m, begun-is .waits, ap (markIn (cells w h) (begun (cells w h) cell s .mark)) q)
-          go (no d) = omega (arith, m, begun-is .blank x d)
+  begun-none = tally-none (cells w h) _ (λ x l. ne-eqb _ 2 (begun-open x l))
 
 -- how many cells a search expands, one after another
 unfoldable pub rounds : (w h : ℕ) → Lent → (stops : ℕ → Bool) → (turns : ℕ) → Scratch → ℕ

@@ -13,7 +13,7 @@ use lib.Dec.{eqb}
 use lib.ListN.{getD}
 use Rattle.walks.specs.Search.{Search, Pick, Expansion}
 use Rattle.walks.proofs.Searches.{pick-below, seen-has}
-use Rattle.walks.proofs.Expanding.{search-goes-on, one-more-expanded}
+use Rattle.walks.proofs.Expanding.{OneMore, search-goes-on, one-more-expanded}
 use Rattle.plot.specs.Turns.{tally}
 use Rattle.plot.specs.Plot.{cells, free}
 use Rattle.plot.specs.Lent.{Lent, Scratch}
@@ -124,16 +124,19 @@ module _ {w h goal cell : ℕ} (p : Lent) (stops : ℕ → Bool) (r : Placed w h
       pub goes-sized : Sized (cells w h) (expanded w h (p .ground) x s)
       goes-sized = expand-sized w h (p .ground) x (t .below) s z
 
-      -- and expands one cell more, so none twice
+      -- x is expanded now, and of the other cells the same are
+      pub newly : OneMore (markIn (cells w h) (s .mark)) (markIn (cells w h) (expanded w h (p .ground) x s .mark)) 2 x
+      newly = one-more-expanded I (fit-consistent f) (taken x t) room-above goes step-is
+
+      -- so one cell more, and none twice
       pub one-more : expandedCount (cells w h) (expanded w h (p .ground) x s .mark) ≡ expandedCount (cells w h) (s .mark) + 1
       unfolding expandedCount
       one-more =
-          let o = one-more-expanded I (fit-consistent f) (taken x t) room-above goes step-is in
           tally-more (cells w h) (isExpanded (s .mark)) (isExpanded (expanded w h (p .ground) x s .mark)) x (t .below)
           (ne-eqb (getD (s .mark) x 0) 2 (omega (arith, t .waiting)))
-          (marked-two _ (cells w h) x (t .below) (o .after))
-          (λ j l d e. marked-two _ (cells w h) j l (o .to j d (two-marked (s .mark) (cells w h) j l e)))
-          (λ j l d e. marked-two _ (cells w h) j l (o .back j d (two-marked (expanded w h (p .ground) x s .mark) (cells w h) j l e)))
+          (marked-two _ (cells w h) x (t .below) (newly .after))
+          (λ j l d e. marked-two _ (cells w h) j l (newly .to j d (two-marked (s .mark) (cells w h) j l e)))
+          (λ j l d e. marked-two _ (cells w h) j l (newly .back j d (two-marked (expanded w h (p .ground) x s .mark) (cells w h) j l e)))
 
   -- THE SEARCH ENDS before its turns are spent.
   pub run-ends : (turns : ℕ) (s : Scratch) → Holds w h cell p stops s → Sized (cells w h) s → cells w h ≤ turns + expandedCount (cells w h) (s .mark) → Ends w h cell p stops (run w h p stops turns s)

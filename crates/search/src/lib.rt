@@ -3,5 +3,6 @@
 
 pub mod begin;
 pub mod expand;
+pub mod hunt;
 pub mod learn;
 pub mod stop;

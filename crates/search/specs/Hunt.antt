@@ -1,0 +1,36 @@
+-- A hunt: the search from its start to its end, over the queue.
+use mathlib.Core.Path.{_≡_}
+use mathlib.Core.Bool.{true, false}
+use mathlib.Core.List.{List}
+use Prim.Native.Nat.{ℕ, _≤_}
+use lib.Dec.{eqb}
+use lib.ListN.{length}
+use Rattle.plot.specs.Head.{cellsOf}
+use Rattle.plot.specs.Lent.{Lent, Scratch}
+use Rattle.plot.specs.Search.{begun, Ended, stoppedAt, nothingWaits}
+use Rattle.plot.specs.Plan.{searched, expandedCount}
+use Rattle.plot.specs.Ways.{Accepts}
+use Rattle.plot.specs.declared.Head.{Head}
+use Rattle.search.specs.Gone.{Gone}
+use Rattle.search.specs.Listed.{Listed}
+use Rattle.search.specs.Waiting.{Held}
+
+-- scratch is as a search begins, and the cart's cell alone waits; no cell is gone
+pub record Huntable (head : Head) (p : Lent) (n : ℕ) (s : Scratch) (heap place gone list : List ℕ) : Type 0 where
+  pub count : n ≡ cellsOf head
+  pub accepted : Accepts head p
+  pub begins : begun n (head .cell) s ≡ s
+  pub held : Held n (p .learned) s 1 heap place
+  pub memory : Gone (head .width) (head .height) (head .goal) (p .learned) (p .link) gone
+  pub gones : n ≤ length gone
+  pub lists : n ≤ length list
+
+-- a search that ended at cell c with this scratch, or where c is n, with nothing waiting
+abbrev pub endAt : (n c : ℕ) → Scratch → Ended
+endAt n c s = elim (eqb c n) [ true ↦ nothingWaits s | false ↦ stoppedAt c s ]
+
+-- it ended as document 01's search does, and the cells that it expanded are listed
+pub record Hunted (head : Head) (p : Lent) (n : ℕ) (s : Scratch) (at count : ℕ) (s′ : Scratch) (list : List ℕ) : Type 0 where
+  pub ends : searched head p s ≡ endAt n at s′
+  pub counts : expandedCount n (s′ .mark) ≡ count
+  pub listed : Listed n (s′ .mark) count list
