@@ -30,25 +30,25 @@ leads-requires : tie.Need-leads-requires Inv-loop μ-loop
 leads-requires c κs = (testable (c .before .before .before .before .before .before .before .before .before .before .before .before .before .before .before .pre) ((c .before .before .before .before .loop) .inv) (taken-on (c .before .before .before .before .before .before .before .before .before .before .before .before .before .before .before .pre) ((c .before .before .before .before .loop) .inv) _ (omega (arith, (c .before .before .before .loop-test) .taken)) ((c .before .cell-of) .ensures)), (c .before .before .before .before .loop) .inv .memory)
 
 same-length : tie.Need-same-length Inv-loop μ-loop
-same-length c = search needs
+same-length c = (c .before .before .before .before .before .before .before .before .loop) .inv .mark-same
 
 same-length-2 : tie.Need-same-length-2 Inv-loop μ-loop
-same-length-2 c = search needs
+same-length-2 c = (c .before .before .before .before .before .before .before .before .loop) .inv .cost-same
 
 same-length-3 : tie.Need-same-length-3 Inv-loop μ-loop
-same-length-3 c = search needs
+same-length-3 c = (c .before .before .before .before .before .before .before .before .loop) .inv .trail-same
 
 same-length-4 : tie.Need-same-length-4 Inv-loop μ-loop
-same-length-4 c = search needs
+same-length-4 c = (c .before .before .before .before .before .before .before .before .loop) .inv .heap-same
 
 same-length-5 : tie.Need-same-length-5 Inv-loop μ-loop
-same-length-5 c = search needs
+same-length-5 c = (c .before .before .before .before .before .before .before .before .loop) .inv .place-same
 
 same-length-6 : tie.Need-same-length-6 Inv-loop μ-loop
-same-length-6 c = search needs
+same-length-6 c = (c .before .before .before .leads) .kept .1 .1 .1 .1 .1 .1 .0 ∙ (c .before .before .before .before .before .before .before .before .loop) .inv .gone-same
 
 same-length-7 : tie.Need-same-length-7 Inv-loop μ-loop
-same-length-7 c = search needs
+same-length-7 c = (c .before .before .before .before .before .before .before .before .loop) .inv .list-same
 
 returns : tie.Need-returns Inv-loop μ-loop
 returns c = hunt-halts (c .before .before .before .before .before .before .before .before .before .before .before .before .before .before .before .before .before .before .before .pre) ((c .before .before .before .before .before .before .before .before .loop) .inv) _ (omega (arith, (c .before .before .before .before .before .before .before .loop-test) .taken)) ((c .before .before .before .before .before .cell-of) .ensures) (sym ((c .before .before .before .leads) .ensures .answer) ∙ (c .if1) .taken)
@@ -75,25 +75,25 @@ loop-again : tie.Need-loop-again Inv-loop μ-loop
 loop-again c = hunt-on (c .before .before .before .before .before .before .before .before .before .before .before .before .before .before .before .before .before .before .before .before .before .before .before .before .before .before .before .before .before .before .before .before .before .before .before .pre) ((c .before .before .before .before .before .before .before .before .before .before .before .before .before .before .before .before .before .before .before .before .before .before .before .before .loop) .inv) _ (omega (arith, (c .before .before .before .before .before .before .before .before .before .before .before .before .before .before .before .before .before .before .before .before .before .before .before .loop-test) .taken)) ((c .before .before .before .before .before .before .before .before .before .before .before .before .before .before .before .before .before .before .before .before .before .cell-of) .ensures) _ _ _ _ _ (sym ((c .before .before .before .before .before .before .before .before .before .before .before .before .before .before .before .before .before .before .before .leads) .ensures .answer) ∙ (c .before .before .before .before .before .before .before .before .before .before .before .before .before .before .before .before .if1) .left) (rw ((c .before .before .before .before .before .before .before .before .before .before .before .before .before .before .before .before .before .before .before .before .before .before .before .before .before .before .before .before .before .before .before .before .before .before .before .pre) .count) at ((c .before .before .before .before .before .before .before .before .before .before .expand) .ensures)) ((c .before .before .before .before .before .before .before .before .before .before .before .before .before .before .before .before .before .before .before .leads) .ensures .memory ((c .before .before .before .before .before .before .before .before .before .before .before .before .before .before .before .before .if1) .left)) ((c .before .before .before .before .before .before .before .before .before .before .expand) .kept .1 .1 .1 .1 .0) ((c .before .before .before .before .before .before .before .before .before .before .expand) .kept .1 .1 .1 .1 .1 .0) ((c .before .before .before .before .before .before .before .before .before .before .expand) .kept .1 .1 .1 .1 .1 .1 .0) ((c .before .before .before .before .before .before .before .before .before .before .expand) .kept .1 .1 .1 .1 .1 .1 .1 .0) ((c .before .before .before .before .before .before .before .before .before .before .expand) .kept .1 .1 .1 .1 .1 .1 .1 .1 .0) ((c .before .before .before .before .before .before .before .before .before .before .before .before .before .before .before .before .before .before .before .leads) .kept .1 .1 .1 .1 .1 .1 .0)
 
 same-length-8 : tie.Need-same-length-8 Inv-loop μ-loop
-same-length-8 c = search needs
+same-length-8 c = (c .before .loop) .inv .mark-same
 
 same-length-9 : tie.Need-same-length-9 Inv-loop μ-loop
-same-length-9 c = search needs
+same-length-9 c = (c .before .loop) .inv .cost-same
 
 same-length-10 : tie.Need-same-length-10 Inv-loop μ-loop
-same-length-10 c = search needs
+same-length-10 c = (c .before .loop) .inv .trail-same
 
 same-length-11 : tie.Need-same-length-11 Inv-loop μ-loop
-same-length-11 c = search needs
+same-length-11 c = (c .before .loop) .inv .heap-same
 
 same-length-12 : tie.Need-same-length-12 Inv-loop μ-loop
-same-length-12 c = search needs
+same-length-12 c = (c .before .loop) .inv .place-same
 
 same-length-13 : tie.Need-same-length-13 Inv-loop μ-loop
-same-length-13 c = search needs
+same-length-13 c = (c .before .loop) .inv .gone-same
 
 same-length-14 : tie.Need-same-length-14 Inv-loop μ-loop
-same-length-14 c = search needs
+same-length-14 c = (c .before .loop) .inv .list-same
 
 returns-2 : tie.Need-returns-2 Inv-loop μ-loop
 returns-2 c = hunt-empty (c .before .before .before .before .before .before .before .before .before .before .before .before .pre) ((c .before .loop) .inv) ((c .loop-test) .left)
