@@ -3,7 +3,7 @@
 use mathlib.Core.Path.{_≡_, refl}
 use mathlib.Core.Bool.{Bool, true, false, not}
 use mathlib.Core.List.{List, [], _∷_}
-use Prim.Native.Nat.{ℕ, _≤_, _<_}
+use Prim.Native.Nat.{ℕ, _*_, _≤_, _<_}
 use native.Mathlib.Nat.{mul-le-mul}
 use native.Mathlib.Omega.{arith}
 use borrow.Author.Tests.{ltb-false, leb-false, eqb-false, le-ltb, lt-leb, not-false}
@@ -57,6 +57,10 @@ module _ (w h : ℕ) (e : badSides w h ≡ false) where
 
   pub cells-few : cells w h ≤ maxCells
   cells-few = mul-le-mul (good-side w (sides-good .0) .1) (good-side h (sides-good .1) .1)
+
+  -- a row is no longer than the plot
+  pub row-within : w ≤ cells w h
+  row-within = let l : w * 1 ≤ w * h = mul-le-mul (omega arith) side-high in omega arith
 
 -- Rooms and cells ---------------------------------------------------------------------------------------------------------------
 

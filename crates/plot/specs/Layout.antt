@@ -3,7 +3,7 @@ use Prim.Native.Nat.{ℕ}
 use mathlib.Core.List.{[], _∷_}
 use Rattle.plot.specs.Turns.{filled, each}
 use Rattle.plot.specs.Plot.{cells, distance}
-use Rattle.plot.specs.Lent.{Lent, lentWith, buffersOf, After}
+use Rattle.plot.specs.Lent.{Lent, lentWith, buffersOf, After, after}
 use Rattle.plot.specs.Head.{headAt, noHead}
 use Rattle.plot.specs.Refusals.{fits, changed}
 use Rattle.plot.specs.declared.Verdict.{Verdict}
@@ -23,6 +23,6 @@ fresh w h goal p =
 unfoldable pub laidOut : (w h start goal : ℕ) → Lent → After Changed
 laidOut w h start goal p =
     elim (layoutCheck w h start goal p) [
-      | Accepted ↦ record { answer = changed (headAt w h goal start) Accepted; lists = fresh w h goal p }
-      | Refused why ↦ record { answer = changed noHead (Refused why); lists = p }
+      | Accepted ↦ after (changed (headAt w h goal start) Accepted) (fresh w h goal p)
+      | Refused why ↦ after (changed noHead (Refused why)) p
     ]

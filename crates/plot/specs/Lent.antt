@@ -41,3 +41,6 @@ fronted front buffer = front ++ drop (length front) buffer
 pub record After (A : Type 0) : Type 0 where
   pub answer : A
   pub lists : Lent
+
+abbrev pub after : {A : Type 0} → A → Lent → After A
+after answer p = record { answer = answer; lists = p }

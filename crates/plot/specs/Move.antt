@@ -2,7 +2,7 @@
 use mathlib.Core.Bool.{true, false}
 use lib.ListN.{set}
 use lib.Dec.{eqb}
-use Rattle.plot.specs.Lent.{Lent, lentWith, After}
+use Rattle.plot.specs.Lent.{Lent, lentWith, After, after}
 use Rattle.plot.specs.Head.{movedTo}
 use Rattle.plot.specs.Route.{next, stands}
 use Rattle.plot.specs.Refusals.{acceptance}
@@ -13,7 +13,7 @@ use Rattle.plot.specs.declared.Step.{Step}
 use Rattle.plot.specs.declared.Moved.{Moved}
 
 abbrev pub stepped : Head → Step → Lent → After Moved
-stepped head step p = record { answer = record { head = head; step = step }; lists = p }
+stepped head step p = after (record { head = head; step = step }) p
 
 -- "the cart goes to the linked cell and the link of the cell it left becomes 0"
 abbrev pub headOnward : Head → Lent → Head

@@ -23,6 +23,9 @@ pub record AfterPlan : Type 0 where
   pub lists : Lent
   pub scratch : Scratch
 
+abbrev pub afterPlan : Planned → Lent → Scratch → AfterPlan
+afterPlan answer p s = record { answer = answer; lists = p; scratch = s }
+
 abbrev pub answered : Head → (count : ℕ) → Outcome → Planned
 answered head count outcome = record { head = head; expanded = count; outcome = outcome }
 
@@ -65,19 +68,14 @@ improved w h p c s =
 
 -- "Stopped at s: .. Answer: route, length cost(s) + learned(s)"
 abbrev pub found : Head → Lent → (c : ℕ) → Scratch → AfterPlan
-found head p c s = record {
-  answer = answered head (expandedCount (cellsOf head) (s .mark)) (Outcome.Route (total (p .learned) (s .cost) c));
-  lists = improved (head .width) (head .height) p c s;
-  scratch = s;
-}
+found head p c s =
+    afterPlan (answered head (expandedCount (cellsOf head) (s .mark)) (Outcome.Route (total (p .learned) (s .cost) c)))
+    (improved (head .width) (head .height) p c s)
+    s
 
 -- "Nothing waits: answer "no way"; learned and link stay, scratch is as the search left it"
 abbrev pub lost : Head → Lent → Scratch → AfterPlan
-lost head p s = record {
-  answer = answered head (expandedCount (cellsOf head) (s .mark)) Outcome.NoWay;
-  lists = p;
-  scratch = s;
-}
+lost head p s = afterPlan (answered head (expandedCount (cellsOf head) (s .mark)) Outcome.NoWay) p s
 
 -- a search never runs out of turns
 unfoldable pub concluded : Head → Lent → Ended → AfterPlan
@@ -90,8 +88,8 @@ unfoldable pub planned : Head → Lent → Scratch → AfterPlan
 planned head p s =
     elim (planCheck head p s) [
       | Accepted ↦ elim (eqb (head .cell) (head .goal)) [
-        | true ↦ record { answer = answered head 0 Outcome.Arrived; lists = p; scratch = s }
+        | true ↦ afterPlan (answered head 0 Outcome.Arrived) p s
         | false ↦ concluded head p (searched head p s)
       ]
-      | Refused why ↦ record { answer = answered head 0 (Outcome.Refused why); lists = p; scratch = s }
+      | Refused why ↦ afterPlan (answered head 0 (Outcome.Refused why)) p s
     ]

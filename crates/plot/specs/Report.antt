@@ -6,7 +6,7 @@ use lib.ListN.{getD, set}
 use lib.Dec.{eqb}
 use Rattle.plot.specs.Turns.{filled}
 use Rattle.plot.specs.Plot.{cells, free}
-use Rattle.plot.specs.Lent.{Lent, lentWith, buffersOf, After}
+use Rattle.plot.specs.Lent.{Lent, lentWith, buffersOf, After, after}
 use Rattle.plot.specs.Head.{cellsNamed}
 use Rattle.plot.specs.Route.{next}
 use Rattle.plot.specs.Refusals.{refuseIf, andThen, check, changed}
@@ -38,6 +38,6 @@ blocked head p c =
 unfoldable pub reported : Head → Lent → (c : ℕ) → After Changed
 reported head p c =
     elim (reportCheck head p c) [
-      | Accepted ↦ record { answer = changed head Accepted; lists = blocked head p c }
-      | Refused why ↦ record { answer = changed head (Refused why); lists = p }
+      | Accepted ↦ after (changed head Accepted) (blocked head p c)
+      | Refused why ↦ after (changed head (Refused why)) p
     ]

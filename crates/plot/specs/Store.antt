@@ -3,7 +3,7 @@ use Prim.Native.Nat.{ℕ}
 use mathlib.Core.Bool.{not}
 use mathlib.Core.List.{List}
 use Rattle.plot.specs.Plot.{badSides}
-use Rattle.plot.specs.Lent.{Lent, buffersOf, After, fronted}
+use Rattle.plot.specs.Lent.{Lent, buffersOf, After, after, fronted}
 use Rattle.plot.specs.Head.{noHead, cellsOf, cellsNamed}
 use Rattle.plot.specs.Sound.{sound}
 use Rattle.plot.specs.Refusals.{refuseIf, andThen, tooShort, anyShort, anyOutside, acceptance, changed}
@@ -56,6 +56,6 @@ loadCheck bytes p =
 unfoldable pub loaded : (bytes : List ℕ) → Lent → After Changed
 loaded bytes p =
     elim (loadCheck bytes p) [
-      | Accepted ↦ record { answer = changed (headOf bytes) Accepted; lists = readInto (cellsOf (headOf bytes)) bytes p }
-      | Refused why ↦ record { answer = changed noHead (Refused why); lists = p }
+      | Accepted ↦ after (changed (headOf bytes) Accepted) (readInto (cellsOf (headOf bytes)) bytes p)
+      | Refused why ↦ after (changed noHead (Refused why)) p
     ]

@@ -14,8 +14,8 @@ use Rattle.plot.proofs.Order.{Foremost}
 use Rattle.queue.specs.Queue.{none}
 use Rattle.queue.proofs.First.{first-own, first-under, empty-none}
 use Rattle.queue.proofs.Keys.{key-earlier}
-use Rattle.search.specs.Waiting.{keyFor, Held}
-use Rattle.search.proofs.Looking.{key-waits, key-none, first-on}
+use Rattle.expand.specs.Waiting.{keyFor, Held}
+use Rattle.expand.proofs.Looking.{key-waits, key-none, first-on}
 
 module _ {n : ℕ} {l : List ℕ} {s : Scratch} {len : ℕ} {heap place : List ℕ} (a : Held n l s len heap place)
     (costs : (y : ℕ) → y < n → getD (s .mark) y 0 ≡ 1 → getD (s .cost) y 0 ≤ 65535) (values : (y : ℕ) → y < n → getD l y 0 ≤ 65535) where

@@ -16,7 +16,7 @@ use Rattle.plot.specs.Search.{expanded, first, run}
 use Rattle.plot.specs.Plan.{searched, expandedCount}
 use Rattle.plot.specs.declared.Head.{Head}
 use Rattle.walks.proofs.Pigeonhole.{fewest-below}
-use Rattle.plot.proofs.Accepting.{accepts-held}
+use Rattle.plot.proofs.Accepting.{accepts-held, row-within}
 use Rattle.plot.proofs.Beginning.{start-holds, begun-none, begun-open}
 use Rattle.plot.proofs.Fit as fit
 use Rattle.plot.proofs.Geometry.{adj-inside}
@@ -26,10 +26,9 @@ use Rattle.plot.proofs.Searching.{Holds, seen-free, expanded-below, goes-on, ne
 use Rattle.plot.proofs.Views.{mark-on}
 use Rattle.search.specs.Gone.{Gone, Testable}
 use Rattle.search.specs.Hunt.{Huntable, endAt, Hunted}
-use Rattle.search.specs.Listed.{Listed}
-use Rattle.search.specs.Waiting.{Held, Did}
+use Rattle.learn.specs.Listed.{Listed}
+use Rattle.expand.specs.Waiting.{Held, Did}
 use Rattle.search.proofs.Foremost.{queue-foremost, queue-empty}
-use Rattle.search.proofs.Laying.{row-within}
 use Rattle.search.proofs.Turning.{run-empty, run-halts, run-on}
 use Rattle.search.proofs.Growing.{list-on}
 

@@ -12,7 +12,7 @@ use lib.ListN.{length, getD, set, length-set}
 use lib.Seq.{getD-set-other}
 use Rattle.plot.specs.Plot.{cells}
 use Rattle.plot.specs.Route.{next, leads}
-use Rattle.sound.proofs.Stepping.{leads-here, leads-spent, leads-off, leads-apart, leads-turn}
+use Rattle.steps.proofs.Leading.{leads-here, leads-spent, leads-off, leads-apart, leads-turn}
 use Rattle.search.specs.Gone.{leadsAt, Gone, Tested}
 
 -- a marked cell does not lead to the goal, or stands behind, and leads there only if the walk does

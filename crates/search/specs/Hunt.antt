@@ -12,8 +12,8 @@ use Rattle.plot.specs.Plan.{searched, expandedCount}
 use Rattle.plot.specs.Ways.{Accepts}
 use Rattle.plot.specs.declared.Head.{Head}
 use Rattle.search.specs.Gone.{Gone}
-use Rattle.search.specs.Listed.{Listed}
-use Rattle.search.specs.Waiting.{Held}
+use Rattle.learn.specs.Listed.{Listed}
+use Rattle.expand.specs.Waiting.{Held}
 
 -- scratch is as a search begins, and the cart's cell alone waits; no cell is gone
 pub record Huntable (head : Head) (p : Lent) (n : ℕ) (s : Scratch) (heap place gone list : List ℕ) : Type 0 where

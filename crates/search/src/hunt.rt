@@ -1,6 +1,6 @@
 // The loop of a search: take the first of the queue, stop there or expand it, until nothing waits.
-use crate::expand::expand;
 use crate::stop::leads;
+use expand::expand;
 use plot::Head;
 use queue::cell_of;
 ghost use mathlib.Core.Path.{_≡_};

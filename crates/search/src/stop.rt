@@ -1,6 +1,6 @@
 // The stop test with its memory: a cell once walked without reaching the goal never leads there during this search, since
 // links and learned values stay. So all stop tests of one search together walk each cell once.
-use crate::expand::beside;
+use steps::beside;
 ghost use mathlib.Core.Path.{_≡_};
 ghost use Prim.Native.Nat.{_<_, _≤_};
 ghost use lib.ListN.{length, getD};

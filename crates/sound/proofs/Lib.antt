@@ -1,5 +1,4 @@
 pub mod Rows
-pub mod Stepping
 pub mod Scans
 pub mod Flags
 pub mod Flatness

@@ -13,7 +13,7 @@ use lib.Dec.{ltb, leb}
 use lib.ListN.{length, getD, set, replicate}
 use lib.Seq.{getD-set-same, getD-set-other}
 use Rattle.plot.specs.Plot.{maxCells, badSides, cells, column}
-use Rattle.plot.proofs.Accepting.{side-wide, side-high, cells-few}
+use Rattle.plot.proofs.Accepting.{side-wide, cells-few, row-within}
 use Rattle.sound.specs.Flat.{Clear, Marked}
 
 -- row r of h rows of w cells lies within them, and the next begins where it ends
@@ -35,7 +35,7 @@ good-sides w h e = record {
   wide = side-wide w h e;
   few = cells-few w h e;
   turned = mul-comm h w;
-  row = omega (arith, row-in 0 h w (side-high w h e), mul-comm h w);
+  row = row-within w h e;
 }
 
 -- The marks are written -------------------------------------------------------------------------------------------------------

@@ -4,16 +4,9 @@ use mathlib.Core.Bool.{false}
 use mathlib.Core.List.{List}
 use Prim.Native.Nat.{ℕ, _≤_, _<_}
 use lib.ListN.{length}
-use Rattle.plot.specs.Plot.{badSides, cells}
+use Rattle.plot.specs.Plot.{badSides}
 use Rattle.plot.specs.Head.{cellsOf}
 use Rattle.plot.specs.declared.Head.{Head}
-
--- links can be followed from c: good sides, c on the plot, and N entries or more in each buffer
-pub record Walkable (w h c : ℕ) (learned link : List ℕ) : Type 0 where
-  pub sides : badSides w h ≡ false
-  pub inside : c < cells w h
-  pub learneds : cells w h ≤ length learned
-  pub links : cells w h ≤ length link
 
 -- soundness can be tested over all cells: good sides, the goal and the cart on the plot, and N entries or more in each
 pub record Given (head : Head) (ground learned link : List ℕ) : Type 0 where

@@ -1,0 +1,75 @@
+// What plan does after a stop: the learned values of the expanded cells rise, and links are laid back along the trail.
+use steps::beside;
+ghost use mathlib.Core.Path.{_≡_};
+ghost use mathlib.Core.Bool.{false};
+ghost use Prim.Native.Nat.{_-_, _<_, _≤_};
+ghost use lib.ListN.{length};
+ghost use Rattle.plot.specs.Turns.{filled};
+ghost use Rattle.plot.specs.Plot.{badSides, cells, opposite};
+ghost use Rattle.plot.specs.Plan.{lesson, linked};
+ghost use Rattle.learn.specs.Listed.{Listed};
+
+// What is left of a route of this many steps at a cell of cost g.
+fn left_at(steps: usize, g: u16) -> u16
+    requires { ⌜ steps < 65536 ⌝ }
+    ensures { λ r. ⌜ r ≡ steps - g ⌝ }
+{
+    let gone = g as usize;
+    if gone <= steps {
+        return (steps - gone) as u16;
+    }
+    0
+}
+
+// The learned values after a search that found a route of this many steps and expanded the first `count` cells of the
+// list: only these are written. (Marks say which cells those are, and are not read.)
+pub fn raise(
+    learned: &mut [u16],
+    mark: &[u8],
+    cost: &[u16],
+    list: &[u16],
+    n: usize,
+    count: usize,
+    steps: usize,
+)
+    requires { ⌜ (n ≤ length (now learned)) × (n ≤ length (now cost)) × (count ≤ length (now list)) × (steps < 65536) × Listed n (now mark) count (now list) ⌝ }
+    ensures { λ _. ⌜ now (learned .exit) ≡ filled n (lesson steps (now (learned .entry)) (now (mark .entry)) (now (cost .entry))) (now (learned .entry)) ⌝ }
+{
+    let mut i = 0;
+    while i < count {
+        let x = list[i] as usize;
+        learned[x] = left_at(steps, cost[x]);
+        i += 1;
+    }
+}
+
+// The opposite direction.
+fn turned(d: u8) -> u8
+    ensures { λ r. ⌜ r ≡ opposite d ⌝ }
+{
+    if d <= 2 {
+        return d + 2;
+    }
+    d - 2
+}
+
+// Links along the trail, back from c, whose cost is v.
+pub fn lay(width: usize, height: usize, trail: &[u8], link: &mut [u8], v: usize, c: usize)
+    requires { ⌜ (badSides width height ≡ false) × (c < cells width height) × (cells width height ≤ length (now trail)) × (cells width height ≤ length (now link)) ⌝ }
+    ensures { λ _. ⌜ now (link .exit) ≡ linked width height (now (trail .entry)) v c (now (link .entry)) ⌝ }
+{
+    let n = width * height;
+    let mut at = c;
+    let mut left = v;
+    while left != 0 {
+        let d = trail[at];
+        let back = turned(d);
+        let b = beside(width, height, n, at, at % width, back);
+        if n <= b {
+            return;
+        }
+        link[b] = d;
+        at = b;
+        left -= 1;
+    }
+}

@@ -1,0 +1,38 @@
+// Steps on the plot: the cell beside a cell, and whether links lead to the goal.
+ghost use mathlib.Core.Path.{_≡_};
+ghost use Prim.Native.Nat.{_%_, _<_, _≤_};
+ghost use Rattle.plot.specs.Plot.{cells, ahead};
+
+pub mod routes;
+
+// The cell beside c in direction d, or n; col is c's column. One division serves the four directions.
+pub fn beside(width: usize, height: usize, n: usize, c: usize, col: usize, d: u8) -> usize
+    requires { ⌜ (n ≡ cells width height) × (c < n) × (n ≤ 65535) × (width ≤ n) × (col ≡ c % width) ⌝ }
+    ensures { λ r. ⌜ r ≡ ahead width height c d ⌝ }
+{
+    if d == 1 {
+        if col + 1 < width {
+            return c + 1;
+        }
+        return n;
+    }
+    if d == 2 {
+        if c + width < n {
+            return c + width;
+        }
+        return n;
+    }
+    if d == 3 {
+        if 0 < col {
+            return c - 1;
+        }
+        return n;
+    }
+    if d == 4 {
+        if width <= c {
+            return c - width;
+        }
+        return n;
+    }
+    n
+}
