@@ -98,14 +98,17 @@ module _ {head : Head} {p : Lent} {n : ℕ} {s₀ : Scratch} {heap₀ place₀ g
     values y i = omega (arith, accepted .fit .learned y i, accepted .placed .few)
 
     -- a waiting cell is one step behind an expanded one, so its cost is small
-    costs : (y : ℕ) → y < cellsOf head → getD (s .mark) y 0 ≡ 1 → getD (s .cost) y 0 ≤ 65535
-    costs y i m = go (ℕ-discrete y (head .cell))
+    near : (y : ℕ) → y < cellsOf head → getD (s .mark) y 0 ≡ 1 → getD (s .cost) y 0 ≤ cellsOf head
+    near y i m = go (ℕ-discrete y (head .cell))
       where
-        go : Dec (y ≡ head .cell) → getD (s .cost) y 0 ≤ 65535
+        go : Dec (y ≡ head .cell) → getD (s .cost) y 0 ≤ cellsOf head
         go (yes e) = rw e (omega (arith, a .holds .origin))
         go (no d) =
             let r = a .holds .reached y (omega (arith, mark-on (cellsOf head) (s .mark) y i)) d in
-            omega (arith, r .dearer, fewest-below adj-inside (accepted .placed .cart-on) (a .holds .fewest (r .prev) (r .expanded)), accepted .placed .few)
+            omega (arith, r .dearer, fewest-below adj-inside (accepted .placed .cart-on) (a .holds .fewest (r .prev) (r .expanded)))
+
+    costs : (y : ℕ) → y < cellsOf head → getD (s .mark) y 0 ≡ 1 → getD (s .cost) y 0 ≤ 65535
+    costs y i m = omega (arith, near y i m, accepted .placed .few)
 
     pub turns-left : count < cellsOf head
     turns-left = omega (arith, a .counts, expanded-below p (stopsAt head p) (accepted .placed) (accepted .fit) halts s (a .holds) sized)
@@ -119,6 +122,8 @@ module _ {head : Head} {p : Lent} {n : ℕ} {s₀ : Scratch} {heap₀ place₀ g
           ∙ rw (endAt, eq-eqb (cellsOf head) (cellsOf head) refl);
       counts = a .counts;
       listed = a .listed;
+      within = omega arith;
+      near = λ d. absurd (d refl);
     })
 
     module _ (x : ℕ) (some : 1 ≤ len) (e : x ≡ getD heap 1 0 % 65536) where
@@ -144,6 +149,8 @@ module _ {head : Head} {p : Lent} {n : ℕ} {s₀ : Scratch} {heap₀ place₀ g
             ∙ rw (endAt, ne-eqb x (cellsOf head) (omega (arith, taken .below)));
         counts = a .counts;
         listed = a .listed;
+        within = omega (arith, taken .below);
+        near = λ _. near x (taken .below) (taken .waiting);
       })
 
       pub hunt-on : (len′ : ℕ) (s′ : Scratch) (heap′ place′ gone′ : List ℕ) → stopsAt head p x ≡ false

@@ -4,7 +4,7 @@ use mathlib.Core.Bool.{true, false}
 use mathlib.Core.List.{List}
 use Prim.Native.Nat.{ℕ, _≤_}
 use lib.Dec.{eqb}
-use lib.ListN.{length}
+use lib.ListN.{length, getD}
 use Rattle.plot.specs.Head.{cellsOf}
 use Rattle.plot.specs.Lent.{Lent, Scratch}
 use Rattle.plot.specs.Search.{begun, Ended, stoppedAt, nothingWaits}
@@ -12,6 +12,7 @@ use Rattle.plot.specs.Plan.{searched, expandedCount}
 use Rattle.plot.specs.Ways.{Accepts}
 use Rattle.plot.specs.declared.Head.{Head}
 use Rattle.search.specs.Gone.{Gone}
+use Rattle.search.specs.Start.{Startable}
 use Rattle.learn.specs.Listed.{Listed}
 use Rattle.expand.specs.Waiting.{Held}
 
@@ -25,12 +26,23 @@ pub record Huntable (head : Head) (p : Lent) (n : ℕ) (s : Scratch) (heap place
   pub gones : n ≤ length gone
   pub lists : n ≤ length list
 
+-- each list has room, nothing is marked gone, and scratch is as it may be
+pub record Searchable (head : Head) (p : Lent) (n : ℕ) (s : Scratch) (heap place gone list : List ℕ) : Type 0 where
+  pub count : n ≡ cellsOf head
+  pub accepted : Accepts head p
+  pub start : Startable n (head .cell) (p .learned) s heap place
+  pub cleared : (x : ℕ) → getD gone x 0 ≡ 0
+  pub gones : n ≤ length gone
+  pub lists : n ≤ length list
+
 -- a search that ended at cell c with this scratch, or where c is n, with nothing waiting
 abbrev pub endAt : (n c : ℕ) → Scratch → Ended
 endAt n c s = elim (eqb c n) [ true ↦ nothingWaits s | false ↦ stoppedAt c s ]
 
--- it ended as document 01's search does, and the cells that it expanded are listed
+-- it ended as document 01's search does, and the cells that it expanded are listed; the stop is on the plot, and its cost small
 pub record Hunted (head : Head) (p : Lent) (n : ℕ) (s : Scratch) (at count : ℕ) (s′ : Scratch) (list : List ℕ) : Type 0 where
   pub ends : searched head p s ≡ endAt n at s′
   pub counts : expandedCount n (s′ .mark) ≡ count
   pub listed : Listed n (s′ .mark) count list
+  pub within : at ≤ n
+  pub near : (at ≡ n → ⊥) → getD (s′ .cost) at 0 ≤ n

@@ -1,11 +1,12 @@
-// The loop of a search: take the first of the queue, stop there or expand it, until nothing waits.
+// The search, and its loop: take the first of the queue, stop there or expand it, until nothing waits.
+use crate::start::start;
 use crate::stop::leads;
 use expand::expand;
 use plot::Head;
 use queue::cell_of;
 ghost use mathlib.Core.Path.{_≡_};
 ghost use Rattle.plot.specs.Lent.{lentWith, scratchWith};
-ghost use Rattle.search.specs.Hunt.{Huntable, Hunted};
+ghost use Rattle.search.specs.Hunt.{Huntable, Searchable, Hunted};
 
 // Where a search ended, n where nothing waits, and how many cells it expanded.
 pub struct End {
@@ -73,4 +74,41 @@ pub fn hunt(
         at: n,
         count: count,
     }
+}
+
+// The search of a plan over accepted data, whatever scratch holds: it starts, and hunts.
+pub fn search(
+    head: Head,
+    n: usize,
+    ground: &[u8],
+    learned: &[u16],
+    link: &[u8],
+    mark: &mut [u8],
+    cost: &mut [u16],
+    trail: &mut [u8],
+    heap: &mut [u64],
+    place: &mut [u16],
+    gone: &mut [u8],
+    list: &mut [u16],
+) -> End
+    requires { ⌜ Searchable head (lentWith (now ground) (now learned) (now link)) n (scratchWith (now mark) (now cost) (now trail)) (now heap) (now place) (now gone) (now list) ⌝ }
+    ensures { λ r. ⌜ Hunted head (lentWith (now (ground .entry)) (now (learned .entry)) (now (link .entry))) n
+        (scratchWith (now (mark .entry)) (now (cost .entry)) (now (trail .entry))) (r .at) (r .count)
+        (scratchWith (now (mark .exit)) (now (cost .exit)) (now (trail .exit))) (now (list .exit)) ⌝ }
+{
+    start(n, head.cell, learned, mark, cost, trail, heap, place);
+    hunt(
+        head,
+        n,
+        ground,
+        learned,
+        link,
+        mark,
+        cost,
+        trail,
+        heap,
+        place,
+        gone,
+        list,
+    )
 }
