@@ -1,0 +1,74 @@
+-- `calls::plan` meets its contract: refused, or what the core does. Assumes nothing.
+use Rattle.calls.proofs.Refusing.{plan-refused, plan-passed}
+use borrow.Author.Needs.{needs}
+use Rattle.calls.proofs.plan.Statement.{statement}
+use Rattle.calls.proofs.plan.Tie as tie
+
+plan-check-requires : tie.Need-plan-check-requires
+plan-check-requires c κs = search needs
+
+enum-known-verdict : tie.Need-enum-known-verdict
+enum-known-verdict c = search needs
+
+same-length : tie.Need-same-length
+same-length c = search needs
+
+same-length-2 : tie.Need-same-length-2
+same-length-2 c = search needs
+
+same-length-3 : tie.Need-same-length-3
+same-length-3 c = search needs
+
+same-length-4 : tie.Need-same-length-4
+same-length-4 c = search needs
+
+same-length-5 : tie.Need-same-length-5
+same-length-5 c = search needs
+
+returns : tie.Need-returns
+returns c = plan-refused _ _ _ ((c .before .before .before .plan-check) .ensures) ((c .before .verdict) .given .1)
+
+enum-told : tie.Need-enum-told
+enum-told c = search needs
+
+replan-requires : tie.Need-replan-requires
+replan-requires c κs = plan-passed _ _ _ ((c .before .before .before .before .before .before .before .plan-check) .ensures) ((c .before .before .before .before .before .enum-told) .given .1)
+
+same-length-6 : tie.Need-same-length-6
+same-length-6 c = search needs
+
+same-length-7 : tie.Need-same-length-7
+same-length-7 c = search needs
+
+same-length-8 : tie.Need-same-length-8
+same-length-8 c = search needs
+
+same-length-9 : tie.Need-same-length-9
+same-length-9 c = search needs
+
+same-length-10 : tie.Need-same-length-10
+same-length-10 c = search needs
+
+returns-2 : tie.Need-returns-2
+returns-2 c = (c .before .before .before .before .before .before .before .before .before .before .replan) .ensures
+
+pub plan-spec : {M : Type 1} → statement M
+plan-spec =
+    tie.close
+    (tie.spec
+    plan-check-requires
+    enum-known-verdict
+    same-length
+    same-length-2
+    same-length-3
+    same-length-4
+    same-length-5
+    returns
+    enum-told
+    replan-requires
+    same-length-6
+    same-length-7
+    same-length-8
+    same-length-9
+    same-length-10
+    returns-2)
