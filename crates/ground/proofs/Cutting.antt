@@ -50,13 +50,13 @@ module _ (n y d : ℕ) (link : List ℕ) where
       go (yes i) (yes e) (yes q) = absurd (f q (omega arith) (ap (λ (k : ℕ). getD link k 0) q ∙ e))
       go (yes i) (yes e) (no o) = rw (cut-one i e) (getD-set-other link y x 0 0 o)
 
-  -- there it becomes 0
+  -- and there it becomes 0
   cut-hits : n ≤ length link → (x : ℕ) → x ≡ y → x < n → getD link x 0 ≡ d → getD (cutAt n y d link) x 0 ≡ 0
   cut-hits r x q i e =
       let own : getD link y 0 ≡ d = rw q at e in
       rw (cut-one (omega arith) own, q) (getD-set-same link y 0 0 (omega arith))
 
-  -- so a link stays or becomes 0
+  -- so any link stays or becomes 0, and one of 0 stays
   cut-either : n ≤ length link → (x : ℕ) → (getD (cutAt n y d link) x 0 ≡ getD link x 0) ⊎ (getD (cutAt n y d link) x 0 ≡ 0)
   cut-either r x = go (decLt y n) (ℕ-discrete (getD link y 0) d) (ℕ-discrete x y)
     where
@@ -176,6 +176,7 @@ module _ (w h c : ℕ) (wide : 0 < w) (on : c < cells w h) (link : List ℕ) (ro
   own-none : next w h own c ≢ c
   own-none e = omega (arith, ap (ahead w h c) (getD-set-same link c 0 0 (omega arith)), none-ahead w h c)
 
+  -- beyond the plot, at c, at a cell that leads to c, and at any other
   entry-same : (x : ℕ) → Dec (x < cells w h) → Dec (x ≡ c) → Dec (next w h own x ≡ c) → getD (cutTo w h c 4 own) x 0 ≡ getD (linksOnceBlocked w h link c) x 0
   entry-same x (no o) _ _ =
       cuts-keep w h c wide on own x (λ i. absurd (o i)) 4 ∙ other x (λ e. o (omega arith)) ∙ sym (links-beyond w h link c x (omega arith))
@@ -188,6 +189,7 @@ module _ (w h c : ℕ) (wide : 0 < w) (on : c < cells w h) (link : List ℕ) (ro
       cuts-keep w h c wide on own x (λ _. e) 4 ∙ other x d
       ∙ sym (links-at w h link c x room i ∙ uncut w h link c x d (λ z. e (ap (ahead w h x) (other x d) ∙ z)))
 
+  -- THE FOUR DIRECTIONS CUT WHAT A REPORT CUTS OVER ALL CELLS.
   cuts-are : cutTo w h c 4 own ≡ linksOnceBlocked w h link c
   cuts-are =
       ext-getD 0 _ _ (cuts-long w h c own 4 ∙ length-set link c 0 ∙ sym (links-long w h link c))

@@ -1,4 +1,4 @@
-// What layout and report write once they are accepted: these two, and what is below them.
+// What layout and report write once they are accepted.
 use fills::clear;
 use plot::Changed;
 use plot::Head;
@@ -25,8 +25,8 @@ fn apart(a: usize, b: usize) -> usize
     if a < b { b - a } else { a - b }
 }
 
-// The distances of one row, whose first cell is given: it is this many rows from the goal's, and the goal stands in column
-// col. So no cell asks for a division.
+// The distances in one row, from its first cell on: the row is this many rows from the goal's, and the goal stands in column
+// col. No cell asks for a division.
 fn lay_row(learned: &mut [u16], width: usize, first: usize, rows: usize, col: usize)
     requires { ⌜ (first + width ≤ length (now learned)) × (rows + width ≤ 65536) × (col < width) ⌝ }
     ensures { λ _. ⌜ now (learned .exit) ≡ rowFilled first rows col width (now (learned .entry)) ⌝ }
@@ -38,7 +38,7 @@ fn lay_row(learned: &mut [u16], width: usize, first: usize, rows: usize, col: us
     }
 }
 
-// The distances of all rows, one after the other.
+// The distances in all rows, one after the other.
 fn lay_rows(learned: &mut [u16], width: usize, height: usize, goal: usize)
     requires { ⌜ (badSides width height ≡ false) × (goal < cells width height) × (cells width height ≤ length (now learned)) ⌝ }
     ensures { λ _. ⌜ now (learned .exit) ≡ filled (cells width height) (distance width goal) (now (learned .entry)) ⌝ }
@@ -54,7 +54,7 @@ fn lay_rows(learned: &mut [u16], width: usize, height: usize, goal: usize)
     }
 }
 
-// A layout that is accepted.
+// A layout that is accepted: ground and links all 0, the distances, and the head.
 pub fn lay_out(
     width: usize,
     height: usize,
@@ -107,7 +107,8 @@ fn unlink(link: &mut [u8], width: usize, height: usize, c: usize)
     }
 }
 
-// A report that is accepted. Learned values stay: they are handed in for the contract alone.
+// A report that is accepted: a free cell is blocked, and a cell known blocked changes nothing. Learned values stay, and are
+// handed in for the contract alone.
 pub fn block(head: Head, ground: &mut [u8], learned: &[u16], link: &mut [u8], c: usize) -> Changed
     requires { ⌜ reportCheck head (lentWith (now ground) (now learned) (now link)) c ≡ Accepted ⌝ }
     ensures { λ r. ⌜ after r (lentWith (now (ground .exit)) (now (learned .entry)) (now (link .exit))) ≡ reported head (lentWith (now (ground .entry)) (now (learned .entry)) (now (link .entry))) c ⌝ }
