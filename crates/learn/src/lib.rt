@@ -1,11 +1,12 @@
 // What plan does after a stop: the learned values of the expanded cells rise, and links are laid back along the trail.
 use steps::beside;
+use steps::turned;
 ghost use mathlib.Core.Path.{_≡_};
 ghost use mathlib.Core.Bool.{false};
 ghost use Prim.Native.Nat.{_-_, _<_, _≤_};
 ghost use lib.ListN.{length};
 ghost use Rattle.plot.specs.Turns.{filled};
-ghost use Rattle.plot.specs.Plot.{badSides, cells, opposite};
+ghost use Rattle.plot.specs.Plot.{badSides, cells};
 ghost use Rattle.plot.specs.Plan.{lesson, linked};
 ghost use Rattle.learn.specs.Listed.{Listed};
 
@@ -41,16 +42,6 @@ pub fn raise(
         learned[x] = left_at(steps, cost[x]);
         i += 1;
     }
-}
-
-// The opposite direction.
-fn turned(d: u8) -> u8
-    ensures { λ r. ⌜ r ≡ opposite d ⌝ }
-{
-    if d <= 2 {
-        return d + 2;
-    }
-    d - 2
 }
 
 // Links along the trail, back from c, whose cost is v.

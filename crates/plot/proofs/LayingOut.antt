@@ -31,7 +31,7 @@ module _ (w h start goal : ℕ) (p : Lent) where
     layout-refused : {why : Reason} → layoutCheck w h start goal p ≡ Refused why → Laying (record { answer = changed noHead (Refused why); lists = p })
     layout-laid : Placed w h goal start → Room (cells w h) p → Laying (record { answer = changed (headAt w h goal start) Accepted; lists = fresh w h goal p })
 
-  layout-passed : layoutCheck w h start goal p ≡ Accepted → Placed w h goal start × Room (cells w h) p
+  pub layout-passed : layoutCheck w h start goal p ≡ Accepted → Placed w h goal start × Room (cells w h) p
   unfolding layoutCheck
   layout-passed e =
       let f = fits-passed w h (buffersOf p) (goal ∷ start ∷ []) e in

@@ -96,15 +96,15 @@ free-after ground c x d e = rw (getD-set-other ground c x 1 0 d) e
 
 module _ (w h : ℕ) (link : List ℕ) (c : ℕ) where
   -- the link of c is cut, and each that points to c; every other stays
-  cut-own : linkOnceBlocked w h link c c ≡ 0
+  pub cut-own : linkOnceBlocked w h link c c ≡ 0
   unfolding linkOnceBlocked
   cut-own = simp (eq-eqb c c refl)
 
-  cut-pointing : (x : ℕ) → x ≢ c → next w h link x ≡ c → linkOnceBlocked w h link c x ≡ 0
+  pub cut-pointing : (x : ℕ) → x ≢ c → next w h link x ≡ c → linkOnceBlocked w h link c x ≡ 0
   unfolding linkOnceBlocked
   cut-pointing x d e = simp (ne-eqb x c d, eq-eqb (next w h link x) c e)
 
-  uncut : (x : ℕ) → x ≢ c → next w h link x ≢ c → linkOnceBlocked w h link c x ≡ getD link x 0
+  pub uncut : (x : ℕ) → x ≢ c → next w h link x ≢ c → linkOnceBlocked w h link c x ≡ getD link x 0
   unfolding linkOnceBlocked
   uncut x d n = simp (ne-eqb x c d, ne-eqb (next w h link x) c n)
 

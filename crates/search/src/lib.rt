@@ -1,5 +1,4 @@
-// The search of plan: scratch set to unseen, the stop test with its memory, and the loop over the queue.
-pub mod begin;
+// The search of plan: the stop test with its memory, and the loop over the queue.
 pub mod hunt;
 pub mod start;
 pub mod stop;

@@ -1,9 +1,19 @@
-// Steps on the plot: the cell beside a cell, and whether links lead to the goal.
+// Steps on the plot: the opposite direction, the cell beside a cell, and whether links lead to the goal.
 ghost use mathlib.Core.Path.{_≡_};
 ghost use Prim.Native.Nat.{_%_, _<_, _≤_};
-ghost use Rattle.plot.specs.Plot.{cells, ahead};
+ghost use Rattle.plot.specs.Plot.{cells, ahead, opposite};
 
 pub mod routes;
+
+// The opposite direction.
+pub fn turned(d: u8) -> u8
+    ensures { λ r. ⌜ r ≡ opposite d ⌝ }
+{
+    if d <= 2 {
+        return d + 2;
+    }
+    d - 2
+}
 
 // The cell beside c in direction d, or n; col is c's column. One division serves the four directions.
 pub fn beside(width: usize, height: usize, n: usize, c: usize, col: usize, d: u8) -> usize

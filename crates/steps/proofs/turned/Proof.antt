@@ -1,8 +1,8 @@
--- `learn::turned` meets its contract: the test picks the case of `opposite`. Assumes nothing.
+-- `steps::turned` meets its contract: the test picks the case of `opposite`. Assumes nothing.
 use borrow.Author.Tests.{le-leb, lt-leb}
 use borrow.Author.Needs.{needs}
-use Rattle.learn.proofs.turned.Statement.{statement}
-use Rattle.learn.proofs.turned.Tie as tie
+use Rattle.steps.proofs.turned.Statement.{statement}
+use Rattle.steps.proofs.turned.Tie as tie
 
 add-result : tie.Need-add-result
 add-result c = search needs

@@ -1,19 +1,21 @@
--- `search::begin::unsee` meets its contract: before each turn the first `x` entries are filled with `unseenCost` (`Filling`). Assumes nothing.
-use Rattle.search.proofs.Filling.{Filled, fill-begin, fill-turn, fill-end}
+-- `fills::unsee` meets its contract: before each turn the first `x` entries are filled with `unseenCost` (`Filling`). Assumes nothing.
+use Rattle.fills.proofs.Filling.{Filled, fill-begin, fill-turn, fill-end}
 use Rattle.plot.specs.Search.{unseenCost}
+use Rattle.plot.specs.Turns.{each}
+use mathlib.Core.Path.{refl}
 use native.Mathlib.Omega.{arith}
 use Prim.Native.Nat.{_≤_, _-_}
-use Rattle.search.proofs.begin.unsee.Statement.{statement}
-use Rattle.search.proofs.begin.unsee.Tie as tie
+use Rattle.fills.proofs.unsee.Statement.{statement}
+use Rattle.fills.proofs.unsee.Tie as tie
 
 abbrev Inv-loop : tie.InvT-loop
-Inv-loop cost₀ n x₀ cost x = (x ≤ n) × Filled x unseenCost cost₀ cost
+Inv-loop cost₀ n x₀ cost x = (x ≤ n) × Filled (each unseenCost) x cost₀ cost
 
 abbrev μ-loop : tie.MeasureT-loop
 μ-loop cost₀ n x₀ cost x = n - x
 
 loop-holds : tie.Need-loop-holds Inv-loop μ-loop
-loop-holds c = (omega arith, fill-begin unseenCost _)
+loop-holds c = (omega arith, fill-begin (each unseenCost) _)
 
 mul-cost : tie.Need-mul-cost Inv-loop μ-loop
 mul-cost c = omega arith
@@ -28,7 +30,7 @@ loop-less : tie.Need-loop-less Inv-loop μ-loop
 loop-less c = omega arith
 
 loop-again : tie.Need-loop-again Inv-loop μ-loop
-loop-again c = (omega arith, fill-turn (c .before .loop .inv .1))
+loop-again c = (omega arith, fill-turn _ (c .before .loop .inv .1) refl)
 
 same-length : tie.Need-same-length Inv-loop μ-loop
 same-length c = c .before .loop .inv .1 .long

@@ -1,11 +1,11 @@
-// Scratch set to unseen: one value in each of the first n entries, and nothing else touched.
+// Lists set to one value: that value in each of the first n entries, and nothing else touched.
 ghost use mathlib.Core.Path.{_≡_};
 ghost use Prim.Native.Nat.{_≤_};
 ghost use lib.ListN.{length};
 ghost use Rattle.plot.specs.Turns.{filled, each};
 ghost use Rattle.plot.specs.Search.{unseenCost};
 
-// Marks and trails: 0 in the first n entries.
+// Bytes: 0 in the first n entries.
 pub fn clear(s: &mut [u8], n: usize)
     requires { ⌜ n ≤ length (now s) ⌝ }
     ensures { λ _. ⌜ now (s .exit) ≡ filled n (each 0) (now (s .entry)) ⌝ }

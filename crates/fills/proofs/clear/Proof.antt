@@ -1,18 +1,20 @@
--- `search::begin::clear` meets its contract: before each turn the first `i` entries are filled with 0 (`Filling`). Assumes nothing.
-use Rattle.search.proofs.Filling.{Filled, fill-begin, fill-turn, fill-end}
+-- `fills::clear` meets its contract: before each turn the first `i` entries are filled with 0 (`Filling`). Assumes nothing.
+use Rattle.fills.proofs.Filling.{Filled, fill-begin, fill-turn, fill-end}
+use Rattle.plot.specs.Turns.{each}
+use mathlib.Core.Path.{refl}
 use native.Mathlib.Omega.{arith}
 use Prim.Native.Nat.{_≤_, _-_}
-use Rattle.search.proofs.begin.clear.Statement.{statement}
-use Rattle.search.proofs.begin.clear.Tie as tie
+use Rattle.fills.proofs.clear.Statement.{statement}
+use Rattle.fills.proofs.clear.Tie as tie
 
 abbrev Inv-loop : tie.InvT-loop
-Inv-loop s₀ n i₀ s i = (i ≤ n) × Filled i 0 s₀ s
+Inv-loop s₀ n i₀ s i = (i ≤ n) × Filled (each 0) i s₀ s
 
 abbrev μ-loop : tie.MeasureT-loop
 μ-loop s₀ n i₀ s i = n - i
 
 loop-holds : tie.Need-loop-holds Inv-loop μ-loop
-loop-holds c = (omega arith, fill-begin 0 _)
+loop-holds c = (omega arith, fill-begin (each 0) _)
 
 slice-write-s : tie.Need-slice-write-s Inv-loop μ-loop
 slice-write-s c = omega arith
@@ -24,7 +26,7 @@ loop-less : tie.Need-loop-less Inv-loop μ-loop
 loop-less c = omega arith
 
 loop-again : tie.Need-loop-again Inv-loop μ-loop
-loop-again c = (omega arith, fill-turn (c .before .loop .inv .1))
+loop-again c = (omega arith, fill-turn 0 (c .before .loop .inv .1) refl)
 
 same-length : tie.Need-same-length Inv-loop μ-loop
 same-length c = c .before .loop .inv .1 .long

@@ -1,0 +1,3 @@
+pub mod Cutting
+pub mod Distances
+pub mod Writing
