@@ -1,12 +1,12 @@
 -- Plan once its tests have passed: what its search is given, and what it answers and leaves in each of its three cases.
 -- Assumes nothing.
-use mathlib.Core.Path.{_≡_, refl, sym, ap, _∙_}
+use mathlib.Core.Path.{_≡_, refl, ap, _∙_}
 use mathlib.Core.Logic.{_≢_}
 use mathlib.Core.List.{List}
-use Prim.Native.Nat.{ℕ, zero, suc, _+_, _≤_, _<_}
+use Prim.Native.Nat.{ℕ, _+_, _≤_, _<_}
 use native.Mathlib.Omega.{arith}
 use borrow.Author.Tests.{eq-eqb, ne-eqb}
-use lib.ListN.{length, getD, replicate, length-replicate}
+use lib.ListN.{getD, replicate, length-replicate}
 use Rattle.plot.specs.Turns.{filled}
 use Rattle.plot.specs.Lent.{Lent, Scratch, lentWith}
 use Rattle.plot.specs.Head.{cellsOf}
@@ -17,14 +17,9 @@ use Rattle.plot.specs.declared.Outcome.{Outcome}
 use Rattle.plot.proofs.Accepting.{held-accepts}
 use Rattle.plot.proofs.Fit.{Held, Sized}
 use Rattle.plot.proofs.Planning.{plan-passed}
-use Rattle.plot.proofs.Turns.{tally-le}
+use Rattle.plot.proofs.Turns.{tally-le, zeros-at}
 use Rattle.plan.specs.Passed.{Passed}
 use Rattle.search.specs.Hunt.{Searchable, endAt, Hunted}
-
-zeros : (n i : ℕ) → _≡_ {A = ℕ} (getD (replicate n 0) i 0) 0
-zeros zero i = refl
-zeros (suc n) zero = refl
-zeros (suc n) (suc i) = zeros n i
 
 module _ {head : Head} {p : Lent} {s : Scratch} (a : Passed head p s) where
   pub held : Held head p
@@ -46,9 +41,9 @@ module _ {head : Head} {p : Lent} {s : Scratch} (a : Passed head p s) where
       trails = sized .trails;
       room = omega (arith, held .placed .few, length-replicate {A = ℕ} 4099 0);
       spots = omega (arith, held .placed .few, length-replicate {A = ℕ} 4096 0);
-      base = zeros 4099 0;
+      base = zeros-at 4099 0;
     };
-    cleared = zeros 4096;
+    cleared = zeros-at 4096;
     gones = omega (arith, held .placed .few, length-replicate {A = ℕ} 4096 0);
     lists = omega (arith, held .placed .few, length-replicate {A = ℕ} 4096 0);
   }

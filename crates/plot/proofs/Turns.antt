@@ -7,7 +7,7 @@ use mathlib.Core.List.{List}
 use Prim.Native.Nat.{ℕ, zero, suc, _+_, _≤_, _<_}
 use native.Mathlib.Decide.{ℕ-discrete}
 use native.Mathlib.Omega.{arith}
-use lib.ListN.{length, getD, set, length-set}
+use lib.ListN.{length, getD, set, replicate, length-set}
 use lib.Seq.{getD-set-same, getD-set-other}
 use Rattle.plot.specs.Turns.{every, tally, filled}
 use Rattle.plot.proofs.Bools.{and-left, and-right, and-both}
@@ -91,6 +91,12 @@ tally-more (suc n) t u x l a b f g = go (ℕ-discrete x n) (λ i. tally-more n t
         omega (arith, rest (omega arith), one-mono (t n) (u n) (f n (omega arith) (omega arith)), one-mono (u n) (t n) (g n (omega arith) (omega arith)))
 
 -- Filled lists ----------------------------------------------------------------------------------------------------------------
+
+-- a list of zeros, as a local array begins
+pub zeros-at : (n i : ℕ) → _≡_ {A = ℕ} (getD (replicate n 0) i 0) 0
+zeros-at zero i = refl
+zeros-at (suc n) zero = refl
+zeros-at (suc n) (suc i) = zeros-at n i
 
 pub length-filled : (k : ℕ) (entry : ℕ → ℕ) (l : List ℕ) → length (filled k entry l) ≡ length l
 unfolding filled

@@ -1,6 +1,6 @@
 // How a search starts: every cell is unseen but the cart's own, which waits alone.
-use crate::begin::clear;
-use crate::begin::unsee;
+use fills::clear;
+use fills::unsee;
 ghost use Rattle.plot.specs.Lent.{scratchWith};
 ghost use Rattle.plot.specs.Search.{begun};
 ghost use Rattle.expand.specs.Waiting.{Did};

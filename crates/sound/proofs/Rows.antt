@@ -13,6 +13,7 @@ use lib.Dec.{ltb, leb}
 use lib.ListN.{length, getD, set, replicate}
 use lib.Seq.{getD-set-same, getD-set-other}
 use Rattle.plot.specs.Plot.{maxCells, badSides, cells, column}
+use Rattle.plot.proofs.Turns.{zeros-at}
 use Rattle.plot.proofs.Accepting.{side-wide, cells-few, row-within}
 use Rattle.sound.specs.Flat.{Clear, Marked}
 
@@ -73,12 +74,7 @@ mark-end w row h end l m d = let e : row ≡ h = omega arith in rw e at d
 
 -- a list of zeros
 pub clear-zeros : (n : ℕ) → Clear (replicate n 0)
-clear-zeros n = record { zero = at n }
-  where
-    at : (n i : ℕ) → _≡_ {A = ℕ} (getD (replicate n 0) i 0) 0
-    at zero i = refl
-    at (suc n) zero = refl
-    at (suc n) (suc i) = at n i
+clear-zeros n = record { zero = zeros-at n }
 
 -- and read --------------------------------------------------------------------------------------------------------------------
 
