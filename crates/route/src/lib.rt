@@ -3,12 +3,21 @@ use plot::Head;
 use plot::Moved;
 use plot::Reason;
 use plot::Step;
+use plot::Verdict;
 use steps::beside;
 use steps::routes::leads;
+use steps::routes::stands;
 ghost use mathlib.Core.Path.{_≡_};
-ghost use Rattle.plot.specs.Lent.{lentWith, after};
+ghost use Prim.Native.Nat.{_<_, _≤_};
+ghost use lib.ListN.{length};
+ghost use Rattle.plot.specs.Plot.{cells, ahead};
+ghost use Rattle.plot.specs.Lent.{lentWith, fronted, after};
+ghost use Rattle.plot.specs.Route.{cellsFrom, route};
 ghost use Rattle.plot.specs.Move.{moved};
+ghost use Rattle.plot.specs.Listing.{listCheck};
 ghost use Rattle.plot.specs.Ways.{Accepts};
+ghost use Rattle.plot.specs.declared.Verdict.the-variants.{Accepted};
+ghost use Rattle.route.specs.Onward.{Writable, Filled};
 
 // Move. (The ground is not asked: sound links lead to free cells.)
 pub fn advance(head: Head, ground: &[u8], learned: &[u16], link: &mut [u8]) -> Moved
@@ -44,4 +53,90 @@ pub fn advance(head: Head, ground: &[u8], learned: &[u16], link: &mut [u8]) -> M
         head: head.moved(next),
         step: Step::Moved,
     }
+}
+
+// Whether list is refused: the buffer is asked after the route.
+pub fn list_check(
+    head: Head,
+    ground: &[u8],
+    learned: &[u16],
+    link: &[u8],
+    buffer: &[u16],
+) -> Verdict
+    requires { ⌜ Accepts head (lentWith (now ground) (now learned) (now link)) ⌝ }
+    ensures { λ r. ⌜ r ≡ listCheck head (lentWith (now (ground .entry)) (now (learned .entry)) (now (link .entry))) (now (buffer .entry)) ⌝ }
+{
+    if !stands(head, learned, link) {
+        return Verdict::Refused(Reason::NoRoute);
+    }
+    let cell = head.cell;
+    let steps = learned[cell] as usize;
+    if buffer.len() <= steps {
+        return Verdict::Refused(Reason::Short);
+    }
+    Verdict::Accepted
+}
+
+// The cell to which a link leads that stays on the plot: so no column is asked, and nothing is divided.
+fn led_to(width: usize, height: usize, c: usize, d: u8) -> usize
+    requires { ⌜ (ahead width height c d < cells width height) × (c ≤ 65535) × (width ≤ 65535) ⌝ }
+    ensures { λ r. ⌜ r ≡ ahead width height c d ⌝ }
+{
+    if d == 1 {
+        return c + 1;
+    }
+    if d == 2 {
+        return c + width;
+    }
+    if d == 3 {
+        return c - 1;
+    }
+    c - width
+}
+
+// The cells on v steps along links, from c on, into the front of the buffer.
+fn follow(width: usize, height: usize, link: &[u8], buffer: &mut [u16], v: usize, c: usize)
+    requires { ⌜ Writable width height v c (now link) (now buffer) ⌝ }
+    ensures { λ _. ⌜ now (buffer .exit) ≡ fronted (cellsFrom width height (now (link .entry)) v c) (now (buffer .entry)) ⌝ }
+{
+    let mut at = c;
+    let mut i = 0;
+    while i < v {
+        buffer[i] = at as u16;
+        at = led_to(width, height, at, link[at]);
+        i += 1;
+    }
+    buffer[i] = at as u16;
+}
+
+// The route's cells into the front of the buffer, and how many they are. A second walk: the first asked whether it stands.
+pub fn fill_route(
+    head: Head,
+    ground: &[u8],
+    learned: &[u16],
+    link: &[u8],
+    buffer: &mut [u16],
+) -> usize
+    requires { ⌜ listCheck head (lentWith (now ground) (now learned) (now link)) (now buffer) ≡ Accepted ⌝ }
+    ensures { λ r. ⌜ Filled head (lentWith (now (ground .entry)) (now (learned .entry)) (now (link .entry))) (now (buffer .entry)) r (now (buffer .exit)) ⌝ }
+{
+    let cell = head.cell;
+    let steps = learned[cell] as usize;
+    follow(head.width, head.height, link, buffer, steps, cell);
+    steps + 1
+}
+
+// The same, and the filled front is handed back.
+pub fn write_route<'a>(
+    head: Head,
+    ground: &[u8],
+    learned: &[u16],
+    link: &[u8],
+    buffer: &'a mut [u16],
+) -> &'a mut [u16]
+    requires { ⌜ listCheck head (lentWith (now ground) (now learned) (now link)) (now buffer) ≡ Accepted ⌝ }
+    ensures { λ r. ⌜ now r ≡ route head (lentWith (now (ground .entry)) (now (learned .entry)) (now (link .entry))) ⌝ }
+{
+    let k = fill_route(head, ground, learned, link, buffer);
+    &mut buffer[..k]
 }
