@@ -1,7 +1,7 @@
 -- The cells of a route written one after the other: what a turn of the walk keeps, and what stands in the buffer at its end.
 -- Assumes nothing.
-use Prim.Native.Nat.{ℕ, zero, suc, _+_, _-_, _≤_, _<_}
-use mathlib.Core.Path.{_≡_, refl, sym, ap, _∙_}
+use Prim.Native.Nat.{ℕ, suc, _+_, _-_, _≤_, _<_}
+use mathlib.Core.Path.{_≡_, refl, sym, _∙_}
 use mathlib.Core.Logic.{_≢_}
 use mathlib.Core.List.{List}
 use native.Mathlib.Nat.{mod-le}
@@ -9,7 +9,7 @@ use native.Mathlib.Numerals.{add-one}
 use native.Mathlib.Omega.{arith}
 use lib.ListN.{length, set, length-set}
 use lib.Seq.{sets, sets-eq}
-use Rattle.plot.specs.Plot.{cells, ahead}
+use Rattle.plot.specs.Plot.{cells}
 use Rattle.plot.specs.Lent.{fronted}
 use Rattle.plot.specs.Route.{next, cellsFrom}
 use Rattle.plot.proofs.Geometry.{Stepped, right, down, left, up}

@@ -9,10 +9,9 @@ use steps::routes::leads;
 use steps::routes::stands;
 ghost use mathlib.Core.Path.{_≡_};
 ghost use Prim.Native.Nat.{_<_, _≤_};
-ghost use lib.ListN.{length};
 ghost use Rattle.plot.specs.Plot.{cells, ahead};
 ghost use Rattle.plot.specs.Lent.{lentWith, fronted, after};
-ghost use Rattle.plot.specs.Route.{cellsFrom, route};
+ghost use Rattle.plot.specs.Route.{cellsFrom};
 ghost use Rattle.plot.specs.Move.{moved};
 ghost use Rattle.plot.specs.Listing.{listCheck};
 ghost use Rattle.plot.specs.Ways.{Accepts};
@@ -124,19 +123,4 @@ pub fn fill_route(
     let steps = learned[cell] as usize;
     follow(head.width, head.height, link, buffer, steps, cell);
     steps + 1
-}
-
-// The same, and the filled front is handed back.
-pub fn write_route<'a>(
-    head: Head,
-    ground: &[u8],
-    learned: &[u16],
-    link: &[u8],
-    buffer: &'a mut [u16],
-) -> &'a mut [u16]
-    requires { ⌜ listCheck head (lentWith (now ground) (now learned) (now link)) (now buffer) ≡ Accepted ⌝ }
-    ensures { λ r. ⌜ now r ≡ route head (lentWith (now (ground .entry)) (now (learned .entry)) (now (link .entry))) ⌝ }
-{
-    let k = fill_route(head, ground, learned, link, buffer);
-    &mut buffer[..k]
 }
