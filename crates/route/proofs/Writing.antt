@@ -1,7 +1,7 @@
 -- The cells of a route written one after the other: what a turn of the walk keeps, and what stands in the buffer at its end.
 -- Assumes nothing.
 use Prim.Native.Nat.{ℕ, suc, _+_, _-_, _≤_, _<_}
-use mathlib.Core.Path.{_≡_, refl, sym, _∙_}
+use mathlib.Core.Path.{_≡_, refl, sym, ap, _∙_}
 use mathlib.Core.Logic.{_≢_}
 use mathlib.Core.List.{List}
 use native.Mathlib.Nat.{mod-le}
@@ -94,6 +94,8 @@ module _ {w h : ℕ} {link : List ℕ} {v c₀ : ℕ} where
         long = length-set l i c ∙ t .long;
       }
 
-  pub write-end : {l₀ : List ℕ} {i c : ℕ} {l : List ℕ} → Writing w h link v c₀ l₀ i c l → v ≤ i → v < length l₀ → set l i c ≡ fronted (cellsFrom w h link v c₀) l₀
+  pub write-end : {l₀ : List ℕ} {i c : ℕ} {l : List ℕ} → Writing w h link v c₀ l₀ i c l → v ≤ i → v < length l₀ → set l v c ≡ fronted (cellsFrom w h link v c₀) l₀
   write-end {l₀} {i} {c} {l} t done room =
-      sym (sets-last w h link (v - i) i c l (omega arith)) ∙ t .is ∙ sets-all (cellsFrom w h link v c₀) l₀ (omega (arith, cells-long w h link v c₀))
+      let e : i ≡ v = omega arith in
+      ap (λ (k : ℕ). set l k c) (sym e) ∙ sym (sets-last w h link (v - i) i c l (omega arith))
+      ∙ t .is ∙ sets-all (cellsFrom w h link v c₀) l₀ (omega (arith, cells-long w h link v c₀))

@@ -65,11 +65,12 @@ pub fn list_check(
     requires { ⌜ Accepts head (lentWith (now ground) (now learned) (now link)) ⌝ }
     ensures { λ r. ⌜ r ≡ listCheck head (lentWith (now (ground .entry)) (now (learned .entry)) (now (link .entry))) (now (buffer .entry)) ⌝ }
 {
-    if !stands(head, learned, link) {
-        return Verdict::Refused(Reason::NoRoute);
-    }
     let cell = head.cell;
     let steps = learned[cell] as usize;
+    let stood = stands(head, learned, link);
+    if !stood {
+        return Verdict::Refused(Reason::NoRoute);
+    }
     if buffer.len() <= steps {
         return Verdict::Refused(Reason::Short);
     }
@@ -105,7 +106,7 @@ fn follow(width: usize, height: usize, link: &[u8], buffer: &mut [u16], v: usize
         at = led_to(width, height, at, link[at]);
         i += 1;
     }
-    buffer[i] = at as u16;
+    buffer[v] = at as u16;
 }
 
 // The route's cells into the front of the buffer, and how many they are. A second walk: the first asked whether it stands.

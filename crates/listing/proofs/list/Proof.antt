@@ -8,10 +8,10 @@ list-count-requires : tie.Need-list-count-requires
 list-count-requires c κs = tt
 
 slice-aggregate-result : tie.Need-slice-aggregate-result
-slice-aggregate-result c = counted-long ((c .before .before .before .list-count) .ensures)
+slice-aggregate-result c = counted-long (c .before .before .before .list-count .ensures)
 
 returns : tie.Need-returns
-returns c = (counted-back ((c .before .before .before .list-count) .ensures), refl)
+returns c = (counted-back (c .before .before .before .list-count .ensures), refl)
 
 pub list-spec : {M : Type 1} → statement M
 list-spec = tie.close (tie.spec list-count-requires slice-aggregate-result returns)

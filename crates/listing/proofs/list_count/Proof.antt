@@ -15,19 +15,19 @@ same-length : tie.Need-same-length
 same-length c = search needs
 
 returns : tie.Need-returns
-returns c = count-none _ _ _ ((c .before .before .list-verdict) .ensures) ((c .enum-told) .given .1)
+returns c = count-none _ _ _ (c .before .before .list-verdict .ensures) (c .enum-told .given .1)
 
 enum-told-2 : tie.Need-enum-told-2
 enum-told-2 c = search needs
 
 fill-route-requires : tie.Need-fill-route-requires
-fill-route-requires c κs = sym ((c .before .before .before .list-verdict) .ensures) ∙ (c .before .enum-told2) .given .1
+fill-route-requires c κs = sym (c .before .before .before .list-verdict .ensures) ∙ (c .before .enum-told2) .given .1
 
 same-length-2 : tie.Need-same-length-2
 same-length-2 c = search needs
 
 returns-2 : tie.Need-returns-2
-returns-2 c = count-filled _ _ _ (sym ((c .before .before .before .before .before .before .list-verdict) .ensures) ∙ (c .before .before .before .before .enum-told2) .given .1) ((c .before .before .fill-route) .ensures)
+returns-2 c = count-filled _ _ _ (sym (c .before .before .before .before .before .before .list-verdict .ensures) ∙ (c .before .before .before .before .enum-told2) .given .1) (c .before .before .fill-route .ensures)
 
 pub list-count-spec : {M : Type 1} → statement M
 list-count-spec =

@@ -17,10 +17,10 @@ number-requires : tie.Need-number-requires
 number-requires c κs = tt
 
 returns : tie.Need-returns
-returns c = number-none _ _ _ ((c .before .before .list-verdict) .ensures) ((c .enum-told) .given .1)
+returns c = number-none _ _ _ (c .before .before .list-verdict .ensures) (c .enum-told .given .1)
 
 returns-2 : tie.Need-returns-2
-returns-2 c = number-why _ _ _ _ ((c .before .before .before .before .list-verdict) .ensures) ((c .before .before .verdict) .given .1) ((c .number) .ensures)
+returns-2 c = number-why _ _ _ _ (c .before .before .before .before .list-verdict .ensures) (c .before .before .verdict .given .1) (c .number .ensures)
 
 pub list-question-spec : {M : Type 1} → statement M
 list-question-spec =

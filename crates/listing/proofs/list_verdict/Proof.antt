@@ -12,13 +12,13 @@ enum-known-verdict : tie.Need-enum-known-verdict
 enum-known-verdict c = search needs
 
 returns : tie.Need-returns
-returns c = list-refused _ _ _ ((c .before .before .before .accepted) .ensures) ((c .before .verdict) .given .1)
+returns c = list-refused _ _ _ (c .before .before .before .accepted .ensures) (c .before .verdict .given .1)
 
 enum-told : tie.Need-enum-told
 enum-told c = search needs
 
 list-check-requires : tie.Need-list-check-requires
-list-check-requires c κs = sym ((c .before .before .accepted) .ensures) ∙ (c .enum-told) .given .1
+list-check-requires c κs = sym (c .before .before .accepted .ensures) ∙ (c .enum-told) .given .1
 
 returns-2 : tie.Need-returns-2
 returns-2 c = (c .list-check) .ensures

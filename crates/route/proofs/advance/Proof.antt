@@ -9,7 +9,7 @@ use Rattle.route.proofs.advance.Statement.{statement}
 use Rattle.route.proofs.advance.Tie as tie
 
 returns : tie.Need-returns
-returns c = move-there _ _ (c .before .before .before .before .pre) ((c .if1) .taken)
+returns c = move-there _ _ (c .before .before .before .before .pre) (c .if1 .taken)
 
 leads-requires : tie.Need-leads-requires
 leads-requires c κs = accepts-walkable _ _ (c .before .before .before .before .before .pre)
@@ -18,7 +18,7 @@ same-length : tie.Need-same-length
 same-length c = search needs
 
 returns-2 : tie.Need-returns-2
-returns-2 c = move-lost _ _ (c .before .before .before .before .before .before .before .pre) _ ((c .before .before .before .if1) .left) ((c .before .leads) .ensures) (not-true _ ((c .if2) .taken))
+returns-2 c = move-lost _ _ (c .before .before .before .before .before .before .before .pre) _ (c .before .before .before .if1 .left) (c .before .leads .ensures) (not-true _ (c .if2 .taken))
 
 mul-beside : tie.Need-mul-beside
 mul-beside c = omega (arith, cells-few _ _ (accepts-walkable _ _ (c .before .before .before .before .before .before .before .pre) .sides))
@@ -42,7 +42,7 @@ same-length-2 : tie.Need-same-length-2
 same-length-2 c = search needs
 
 returns-3 : tie.Need-returns-3
-returns-3 c = move-goes _ _ (c .before .before .before .before .before .before .before .before .before .before .pre) _ _ _ ((c .before .before .before .before .before .before .if1) .left) ((c .before .before .before .before .leads) .ensures) (not-false _ ((c .before .before .before .if2) .left)) ((c .before .beside) .ensures) ((c .moved) .ensures)
+returns-3 c = move-goes _ _ (c .before .before .before .before .before .before .before .before .before .before .pre) _ _ _ (c .before .before .before .before .before .before .if1 .left) (c .before .before .before .before .leads .ensures) (not-false _ (c .before .before .before .if2 .left)) (c .before .beside .ensures) (c .moved .ensures)
 
 pub advance-spec : {M : Type 1} → statement M
 advance-spec =

@@ -15,19 +15,19 @@ shared-slice-read-steps : tie.Need-shared-slice-read-steps
 shared-slice-read-steps c = omega (arith, accepts-walkable _ _ (list-accepts _ _ _ (c .before .before .before .before .before .pre)) .inside, accepts-walkable _ _ (list-accepts _ _ _ (c .before .before .before .before .before .pre)) .learneds)
 
 cast-steps : tie.Need-cast-steps
-cast-steps c = omega (arith, c .shared-slice-known4 .given ((c .before .before .before .before .before .args) .head .cell))
+cast-steps c = omega (arith, c .shared-slice-known4 .given (c .before .before .before .before .before .args .head .cell))
 
 follow-requires : tie.Need-follow-requires
 follow-requires c κs = list-writable _ _ _ (c .before .before .before .before .before .before .pre)
 
 add-result : tie.Need-add-result
-add-result c = omega (arith, c .before .before .before .before .shared-slice-known4 .given ((c .before .before .before .before .before .before .before .before .before .args) .head .cell))
+add-result c = omega (arith, c .before .before .before .before .shared-slice-known4 .given (c .before .before .before .before .before .before .before .before .before .args .head .cell))
 
 same-length : tie.Need-same-length
 same-length c = search needs
 
 returns : tie.Need-returns
-returns c = list-filled _ _ _ _ _ (c .before .before .before .before .before .before .before .before .before .pre) refl ((c .before .before .follow) .ensures)
+returns c = list-filled _ _ _ _ _ (c .before .before .before .before .before .before .before .before .before .pre) refl (c .before .before .follow .ensures)
 
 pub fill-route-spec : {M : Type 1} → statement M
 fill-route-spec =

@@ -7,35 +7,35 @@ use Rattle.route.proofs.Moves.{accepts-walkable}
 use Rattle.route.proofs.list_check.Statement.{statement}
 use Rattle.route.proofs.list_check.Tie as tie
 
-stands-requires : tie.Need-stands-requires
-stands-requires c κs = accepts-walkable _ _ (c .before .before .before .before .pre)
-
-returns : tie.Need-returns
-returns c = list-lost _ _ (c .before .before .before .before .before .before .pre) _ _ ((c .before .stands) .ensures) (not-true _ ((c .if1) .taken))
-
 mul-steps : tie.Need-mul-steps
-mul-steps c = omega (arith, accepts-walkable _ _ (c .before .before .before .before .before .before .pre) .inside, cells-few _ _ (accepts-walkable _ _ (c .before .before .before .before .before .before .pre) .sides))
+mul-steps c = omega (arith, accepts-walkable _ _ (c .before .before .before .before .pre) .inside, cells-few _ _ (accepts-walkable _ _ (c .before .before .before .before .pre) .sides))
 
 shared-slice-read-steps : tie.Need-shared-slice-read-steps
-shared-slice-read-steps c = omega (arith, accepts-walkable _ _ (c .before .before .before .before .before .before .before .pre) .inside, accepts-walkable _ _ (c .before .before .before .before .before .before .before .pre) .learneds)
+shared-slice-read-steps c = omega (arith, accepts-walkable _ _ (c .before .before .before .before .before .pre) .inside, accepts-walkable _ _ (c .before .before .before .before .before .pre) .learneds)
 
 cast-steps : tie.Need-cast-steps
-cast-steps c = omega (arith, c .shared-slice-known5 .given ((c .before .before .before .before .before .before .before .args) .head .cell))
+cast-steps c = omega (arith, c .shared-slice-known5 .given (c .before .before .before .before .before .args .head .cell))
+
+stands-requires : tie.Need-stands-requires
+stands-requires c κs = accepts-walkable _ _ (c .before .before .before .before .before .pre)
+
+returns : tie.Need-returns
+returns c = list-lost _ _ (c .before .before .before .before .before .before .before .pre) _ _ (c .before .stands .ensures) (not-true _ (c .if1 .taken))
 
 returns-2 : tie.Need-returns-2
-returns-2 c = list-short _ _ (c .before .before .before .before .before .before .before .before .pre) _ _ ((c .before .before .before .stands) .ensures) (not-false _ ((c .before .before .if1) .left)) ((c .if2) .taken)
+returns-2 c = list-short _ _ (c .before .before .before .before .before .before .before .before .pre) _ _ (c .before .before .stands .ensures) (not-false _ (c .before .if1 .left)) (c .if2 .taken)
 
 returns-3 : tie.Need-returns-3
-returns-3 c = list-passes _ _ (c .before .before .before .before .before .before .before .before .pre) _ _ ((c .before .before .before .stands) .ensures) (not-false _ ((c .before .before .if1) .left)) ((c .if2) .left)
+returns-3 c = list-passes _ _ (c .before .before .before .before .before .before .before .before .pre) _ _ (c .before .before .stands .ensures) (not-false _ (c .before .if1 .left)) (c .if2 .left)
 
 pub list-check-spec : {M : Type 1} → statement M
 list-check-spec =
     tie.close
     (tie.spec
-    stands-requires
-    returns
     mul-steps
     shared-slice-read-steps
     cast-steps
+    stands-requires
+    returns
     returns-2
     returns-3)
