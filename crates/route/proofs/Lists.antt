@@ -73,10 +73,7 @@ module _ (head : Head) (p : Lent) where
   unfolding route
   list-filled buffer l k ok e is = record { count = e ∙ route-long; is = is }
 
--- the front that was written, counted and read back
+-- the front that was written, read back
 module _ {head : Head} {p : Lent} {buffer l : List ℕ} {k : ℕ} (f : Filled head p buffer k l) where
   pub filled-back : take k l ≡ route head p
   filled-back = rw (f .count, f .is) (fronted-front (route head p) buffer)
-
-  pub filled-counted : k ≡ length (take k l)
-  filled-counted = rw filled-back (f .count)
