@@ -1,20 +1,39 @@
 -- A call whose tests refuse answers the reason and leaves everything as it was: the refused case of each definition.
 -- Assumes nothing.
 use mathlib.Core.Path.{_≡_, sym, _∙_}
-use Rattle.plot.specs.Lent.{Lent, Scratch}
+use Prim.Native.Nat.{ℕ}
+use Rattle.plot.specs.Lent.{Lent, Scratch, after}
+use Rattle.plot.specs.Head.{noHead}
+use Rattle.plot.specs.Refusals.{acceptance, changed}
+use Rattle.plot.specs.Layout.{layoutCheck, laidOut}
+use Rattle.plot.specs.Report.{reportCheck, reported}
 use Rattle.plot.specs.Plan.{afterPlan, answered, planCheck, planned}
+use Rattle.plot.specs.Move.{stepped, moved}
 use Rattle.plot.specs.declared.Head.{Head}
 use Rattle.plot.specs.declared.Reason.{Reason}
 use Rattle.plot.specs.declared.Verdict.{Verdict}
 use Rattle.plot.specs.declared.Verdict.the-variants.{Accepted, Refused}
 use Rattle.plot.specs.declared.Outcome.{Outcome}
+use Rattle.plot.specs.declared.Step.{Step}
 use Rattle.plan.specs.Passed.{Passed}
 
--- v is what the tests of plan said
-module _ (head : Head) (p : Lent) (s : Scratch) {v : Verdict} (e : v ≡ planCheck head p s) where
-  pub plan-refused : {why : Reason} → v ≡ Refused why → afterPlan (answered head 0 (Outcome.Refused why)) p s ≡ planned head p s
-  unfolding planned
-  plan-refused r = rw (planned, sym e ∙ r)
+-- v is what the tests of a call said
+module _ {v : Verdict} {why : Reason} (r : v ≡ Refused why) where
+  pub layout-refused : (w h start goal : ℕ) (p : Lent) → v ≡ layoutCheck w h start goal p → after (changed noHead (Refused why)) p ≡ laidOut w h start goal p
+  unfolding laidOut
+  layout-refused w h start goal p e = rw (laidOut, sym e ∙ r)
 
-  pub plan-passed : v ≡ Accepted → Passed head p s
-  plan-passed r = record { accepted = sym e ∙ r }
+  pub report-refused : (head : Head) (p : Lent) (c : ℕ) → v ≡ reportCheck head p c → after (changed head (Refused why)) p ≡ reported head p c
+  unfolding reported
+  report-refused head p c e = rw (reported, sym e ∙ r)
+
+  pub plan-refused : (head : Head) (p : Lent) (s : Scratch) → v ≡ planCheck head p s → afterPlan (answered head 0 (Outcome.Refused why)) p s ≡ planned head p s
+  unfolding planned
+  plan-refused head p s e = rw (planned, sym e ∙ r)
+
+  pub move-refused : (head : Head) (p : Lent) → v ≡ acceptance head p → stepped head (Step.Refused why) p ≡ moved head p
+  unfolding moved
+  move-refused head p e = rw (moved, sym e ∙ r)
+
+pub plan-passed : {head : Head} {p : Lent} {s : Scratch} {v : Verdict} → v ≡ planCheck head p s → v ≡ Accepted → Passed head p s
+plan-passed e r = record { accepted = sym e ∙ r }

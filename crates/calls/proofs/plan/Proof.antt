@@ -1,4 +1,4 @@
--- `calls::plan` meets its contract: refused, or what the core does. Assumes nothing.
+-- `calls::plan` meets its contract: refused, or what its core does. Assumes nothing.
 use Rattle.calls.proofs.Refusing.{plan-refused, plan-passed}
 use borrow.Author.Needs.{needs}
 use Rattle.calls.proofs.plan.Statement.{statement}
@@ -26,13 +26,13 @@ same-length-5 : tie.Need-same-length-5
 same-length-5 c = search needs
 
 returns : tie.Need-returns
-returns c = plan-refused _ _ _ ((c .before .before .before .plan-check) .ensures) ((c .before .verdict) .given .1)
+returns c = plan-refused ((c .before .verdict) .given .1) _ _ _ ((c .before .before .before .plan-check) .ensures)
 
 enum-told : tie.Need-enum-told
 enum-told c = search needs
 
 replan-requires : tie.Need-replan-requires
-replan-requires c κs = plan-passed _ _ _ ((c .before .before .before .before .before .before .before .plan-check) .ensures) ((c .before .before .before .before .before .enum-told) .given .1)
+replan-requires c κs = plan-passed ((c .before .before .before .before .before .before .before .plan-check) .ensures) ((c .before .before .before .before .before .enum-told) .given .1)
 
 same-length-6 : tie.Need-same-length-6
 same-length-6 c = search needs
