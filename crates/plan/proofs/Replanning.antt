@@ -17,8 +17,8 @@ use Rattle.plot.specs.declared.Outcome.{Outcome}
 use Rattle.plot.proofs.Accepting.{held-accepts}
 use Rattle.plot.proofs.Fit.{Held, Sized}
 use Rattle.plot.proofs.Planning.{plan-passed}
-use Rattle.plot.proofs.Turns.{tally-le, zeros-at}
-use Rattle.plan.specs.Passed.{Passed}
+use Rattle.plot.proofs.Turns.{tally-le}
+use Rattle.plan.specs.Passed.{Passed, Planable}
 use Rattle.search.specs.Hunt.{Searchable, endAt, Hunted}
 
 module _ {head : Head} {p : Lent} {s : Scratch} (a : Passed head p s) where
@@ -28,22 +28,12 @@ module _ {head : Head} {p : Lent} {s : Scratch} (a : Passed head p s) where
   pub sized : Sized (cellsOf head) s
   sized = plan-passed head p s (a .accepted) .1
 
-  pub searchable : Searchable head p (cellsOf head) s (replicate 4099 0) (replicate 4096 0) (replicate 4096 0) (replicate 4096 0)
-  searchable = record {
-    count = refl;
-    accepted = held-accepts head p held;
-    start = record {
-      small = omega (arith, held .placed .few);
-      inside = held .placed .cart-on;
-      learneds = held .room .learneds;
-      marks = sized .marks;
-      costs = sized .costs;
-      trails = sized .trails;
-      room = omega (arith, held .placed .few, length-replicate {A = ℕ} 4099 0);
-      spots = omega (arith, held .placed .few, length-replicate {A = ℕ} 4096 0);
-      base = zeros-at 4099 0;
-    };
-    cleared = zeros-at 4096;
+  -- room for the largest plot is room for this one
+  pub roomy : Planable head p s (replicate 4099 0) (replicate 4096 0) (replicate 4096 0) (replicate 4096 0)
+  roomy = record {
+    passed = a;
+    heaps = omega (arith, held .placed .few, length-replicate {A = ℕ} 4099 0);
+    places = omega (arith, held .placed .few, length-replicate {A = ℕ} 4096 0);
     gones = omega (arith, held .placed .few, length-replicate {A = ℕ} 4096 0);
     lists = omega (arith, held .placed .few, length-replicate {A = ℕ} 4096 0);
   }
@@ -74,9 +64,9 @@ module _ {head : Head} {p : Lent} {s : Scratch} (a : Passed head p s) where
       pub steps-small : getD (t .cost) at 0 + getD (p .learned) at 0 < 8192
       steps-small = omega (arith, u .near off, held .fit .learned at stop-on, held .placed .few)
 
-      pub listed-few : count ≤ 4096
+      pub listed-few : count ≤ cellsOf head
       unfolding expandedCount
-      listed-few = omega (arith, u .counts, tally-le n (isExpanded (t .mark)), held .placed .few)
+      listed-few = omega (arith, u .counts, tally-le n (isExpanded (t .mark)))
 
       pub plan-found : (steps : ℕ) (learned link : List ℕ) → steps ≡ total (p .learned) (t .cost) at
           → learned ≡ filled n (lesson steps (p .learned) (t .mark) (t .cost)) (p .learned)
@@ -87,3 +77,26 @@ module _ {head : Head} {p : Lent} {s : Scratch} (a : Passed head p s) where
           let ends : searched head p s ≡ stoppedAt at t = u .ends ∙ rw (endAt, ne-eqb at n off) in
           let is : planned head p s ≡ found head p at t = plan-goes d ∙ ap (concluded head p) ends in
           rw (is, el, ek, es, ← u .counts, e)
+
+-- what the search is given
+pub searchable : {head : Head} {p : Lent} {s : Scratch} {heap place gone list : List ℕ} → Planable head p s heap place gone list
+    → Searchable head p (cellsOf head) s heap place gone list
+searchable {head} {p} a =
+    let h = held (a .passed) in
+    let z = sized (a .passed) in
+    record {
+      count = refl;
+      accepted = held-accepts head p h;
+      start = record {
+        small = omega (arith, h .placed .few);
+        inside = h .placed .cart-on;
+        learneds = h .room .learneds;
+        marks = z .marks;
+        costs = z .costs;
+        trails = z .trails;
+        room = a .heaps;
+        spots = a .places;
+      };
+      gones = a .gones;
+      lists = a .lists;
+    }

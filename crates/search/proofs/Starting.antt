@@ -7,7 +7,7 @@ use Prim.Native.Nat.{ℕ, _%_, _≤_, _<_}
 use native.Mathlib.Decide.{decLt}
 use native.Mathlib.Omega.{arith}
 use lib.ListN.{length, getD, set, length-set}
-use lib.Seq.{getD-set-other, set-getD, ext-getD}
+use lib.Seq.{getD-set-same, getD-set-other, set-getD, ext-getD}
 use Rattle.plot.specs.Turns.{filled, each}
 use Rattle.plot.specs.Lent.{Scratch, scratchWith}
 use Rattle.plot.specs.Search.{unseenCost, reached, begun}
@@ -47,13 +47,14 @@ begun-again {n} {cell} {learned} {s} a =
 
 -- The cart's cell comes in ------------------------------------------------------------------------------------------------------------
 
+-- the lists are filled, and 0 stands before the heap
 module _ {n cell : ℕ} {l : List ℕ} {s : Scratch} {h q : List ℕ} (a : Startable n cell l s h q) (m g t : List ℕ)
     (em : m ≡ filled n (each 0) (s .mark)) (eg : g ≡ filled n (each unseenCost) (s .cost)) (et : t ≡ filled n (each 0) (s .trail)) where
   blank : (x : ℕ) → x < n → getD m x 0 ≡ 0
   blank x i = rw em (filled-at n (each 0) (s .mark) (a .marks) x i)
 
   -- nothing waits
-  unseen-held : Held n l (scratchWith m g t) 0 h q
+  unseen-held : Held n l (scratchWith m g t) 0 (set h 0 0) q
   unseen-held = record {
     some = omega (arith, a .inside);
     learneds = a .learneds;
@@ -61,10 +62,10 @@ module _ {n cell : ℕ} {l : List ℕ} {s : Scratch} {h q : List ℕ} (a : Start
     costs = rw (eg, length-filled n (each unseenCost) (s .cost)) (a .costs);
     trails = rw (et, length-filled n (each 0) (s .trail)) (a .trails);
     queue = record {
-      room = a .room;
+      room = rw length-set (a .room);
       spots = a .spots;
       small = a .small;
-      base = a .base;
+      base = getD-set-same h 0 0 0 (omega (arith, a .room));
       entry = λ j b d. absurd (omega arith);
       order = λ j b d. absurd (omega arith);
     };
@@ -75,10 +76,10 @@ module _ {n cell : ℕ} {l : List ℕ} {s : Scratch} {h q : List ℕ} (a : Start
   }
 
   module _ (k : ℕ) (e : k ≡ keyOf 0 (getD l cell 0) cell) where
-    pub cart-absent : k ≤ none → Absent n 0 h q k
+    pub cart-absent : k ≤ none → Absent n 0 (set h 0 0) q k
     cart-absent fits = comes-in unseen-held cell 0 k (a .inside) e fits (λ w. omega (arith, w, blank cell (a .inside)))
 
-    pub cart-waits : (h′ q′ : List ℕ) → Lowered n 0 h q k 1 h′ q′ → Did n l (begun n cell s) (scratchWith (set m cell 1) (set g cell 0) t) 1 h′ q′
+    pub cart-waits : (h′ q′ : List ℕ) → Lowered n 0 (set h 0 0) q k 1 h′ q′ → Did n l (begun n cell s) (scratchWith (set m cell 1) (set g cell 0) t) 1 h′ q′
     unfolding begun
     cart-waits h′ q′ u = record {
       is = rw (em, eg, et);

@@ -26,12 +26,11 @@ pub record Huntable (head : Head) (p : Lent) (n : ℕ) (s : Scratch) (heap place
   pub gones : n ≤ length gone
   pub lists : n ≤ length list
 
--- each list has room, nothing is marked gone, and scratch is as it may be
+-- the data are accepted, and each list has room; what scratch and the lists hold does not matter
 pub record Searchable (head : Head) (p : Lent) (n : ℕ) (s : Scratch) (heap place gone list : List ℕ) : Type 0 where
   pub count : n ≡ cellsOf head
   pub accepted : Accepts head p
   pub start : Startable n (head .cell) (p .learned) s heap place
-  pub cleared : (x : ℕ) → getD gone x 0 ≡ 0
   pub gones : n ≤ length gone
   pub lists : n ≤ length list
 

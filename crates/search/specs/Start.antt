@@ -1,11 +1,10 @@
 -- What a search is given to start with.
-use mathlib.Core.Path.{_≡_}
 use mathlib.Core.List.{List}
 use Prim.Native.Nat.{ℕ, _+_, _≤_, _<_}
-use lib.ListN.{length, getD}
+use lib.ListN.{length}
 use Rattle.plot.specs.Lent.{Scratch}
 
--- the cart's cell is on the plot, and each list has room
+-- the cart's cell is on the plot, and each list has room; what they hold does not matter
 pub record Startable (n cell : ℕ) (learned : List ℕ) (s : Scratch) (heap place : List ℕ) : Type 0 where
   pub small : n ≤ 65534
   pub inside : cell < n
@@ -15,4 +14,3 @@ pub record Startable (n cell : ℕ) (learned : List ℕ) (s : Scratch) (heap pla
   pub trails : n ≤ length (s .trail)
   pub room : n + 3 ≤ length heap
   pub spots : n ≤ length place
-  pub base : getD heap 0 0 ≡ 0

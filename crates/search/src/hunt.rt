@@ -2,6 +2,7 @@
 use crate::start::start;
 use crate::stop::leads;
 use expand::expand;
+use fills::clear;
 use plot::Head;
 use queue::cell_of;
 ghost use mathlib.Core.Path.{_≡_};
@@ -76,7 +77,7 @@ pub fn hunt(
     }
 }
 
-// The search of a plan over accepted data, whatever scratch holds: it starts, and hunts.
+// The search of a plan over accepted data, whatever the lists hold: it starts, and hunts.
 pub fn search(
     head: Head,
     n: usize,
@@ -96,6 +97,7 @@ pub fn search(
         (scratchWith (now (mark .entry)) (now (cost .entry)) (now (trail .entry))) (r .at) (r .count)
         (scratchWith (now (mark .exit)) (now (cost .exit)) (now (trail .exit))) (now (list .exit)) ⌝ }
 {
+    clear(gone, n);
     start(n, head.cell, learned, mark, cost, trail, heap, place);
     hunt(
         head,

@@ -27,6 +27,7 @@ pub fn start(
     clear(trail, n);
     mark[cell] = 1;
     cost[cell] = 0;
+    heap[0] = 0;
     let k = queue::key(0, learned[cell], cell as u16);
     queue::push(heap, place, n, 0, k);
 }

@@ -1,31 +1,23 @@
--- `plan::replan` meets its contract: each way out is one law. Assumes nothing.
-use Rattle.plan.proofs.Replanning.{held, sized, searchable, plan-there, plan-none, stop-on, steps-small, listed-few, plan-found}
-use native.Mathlib.Omega.{arith}
-use mathlib.Core.Path.{refl}
+-- `plan::replan` meets its contract. Assumes nothing.
+use Rattle.plan.proofs.Replanning.{roomy}
 use borrow.Author.Needs.{needs}
 use Rattle.plan.proofs.replan.Statement.{statement}
 use Rattle.plan.proofs.replan.Tie as tie
 
-returns : tie.Need-returns
-returns c = plan-there ((c .before .before .before .before .before .before .before .before .pre)) ((c .if1) .taken)
+slice-aggregate-replan-with : tie.Need-slice-aggregate-replan-with
+slice-aggregate-replan-with c = search needs
 
-mul-n : tie.Need-mul-n
-mul-n c = omega (arith, held ((c .before .before .before .before .before .before .before .before .before .pre)) .placed .few)
+slice-aggregate-replan-with-2 : tie.Need-slice-aggregate-replan-with-2
+slice-aggregate-replan-with-2 c = search needs
 
-slice-aggregate-search : tie.Need-slice-aggregate-search
-slice-aggregate-search c = search needs
+slice-aggregate-replan-with-3 : tie.Need-slice-aggregate-replan-with-3
+slice-aggregate-replan-with-3 c = search needs
 
-slice-aggregate-search-2 : tie.Need-slice-aggregate-search-2
-slice-aggregate-search-2 c = search needs
+slice-aggregate-replan-with-4 : tie.Need-slice-aggregate-replan-with-4
+slice-aggregate-replan-with-4 c = search needs
 
-slice-aggregate-search-3 : tie.Need-slice-aggregate-search-3
-slice-aggregate-search-3 c = search needs
-
-slice-aggregate-search-4 : tie.Need-slice-aggregate-search-4
-slice-aggregate-search-4 c = search needs
-
-search-requires : tie.Need-search-requires
-search-requires c κs = searchable ((c .before .before .before .before .before .before .before .before .before .before .before .before .before .before .before .before .before .before .pre))
+replan-with-requires : tie.Need-replan-with-requires
+replan-with-requires c κs = roomy ((c .before .before .before .before .before .before .before .before .before .before .before .before .before .before .before .pre))
 
 same-length : tie.Need-same-length
 same-length c = search needs
@@ -42,87 +34,21 @@ same-length-4 c = search needs
 same-length-5 : tie.Need-same-length-5
 same-length-5 c = search needs
 
-returns-2 : tie.Need-returns-2
-returns-2 c = plan-none ((c .before .before .before .before .before .before .before .before .before .before .before .before .before .before .before .before .before .before .before .before .before .before .before .before .before .before .before .before .before .before .pre)) ((c .before .before .before .before .before .before .before .before .before .before .before .search) .ensures) refl ((c .before .before .before .before .before .before .before .before .before .before .before .before .before .before .before .before .before .before .before .before .before .before .if1) .left) ((c .if2) .taken)
-
-mul-walked : tie.Need-mul-walked
-mul-walked c = omega (arith, stop-on ((c .before .before .before .before .before .before .before .before .before .before .before .before .before .before .before .before .before .before .before .before .before .before .before .before .before .before .before .before .before .before .pre)) ((c .before .before .before .before .before .before .before .before .before .before .before .search) .ensures) refl ((c .before .before .before .before .before .before .before .before .before .before .before .before .before .before .before .before .before .before .before .before .before .before .if1) .left) ((c .if2) .left), held ((c .before .before .before .before .before .before .before .before .before .before .before .before .before .before .before .before .before .before .before .before .before .before .before .before .before .before .before .before .before .before .pre)) .placed .few)
-
-slice-read-walked : tie.Need-slice-read-walked
-slice-read-walked c = omega (arith, stop-on ((c .before .before .before .before .before .before .before .before .before .before .before .before .before .before .before .before .before .before .before .before .before .before .before .before .before .before .before .before .before .before .before .pre)) ((c .before .before .before .before .before .before .before .before .before .before .before .before .search) .ensures) refl ((c .before .before .before .before .before .before .before .before .before .before .before .before .before .before .before .before .before .before .before .before .before .before .before .if1) .left) ((c .before .if2) .left), sized ((c .before .before .before .before .before .before .before .before .before .before .before .before .before .before .before .before .before .before .before .before .before .before .before .before .before .before .before .before .before .before .before .pre)) .costs, (c .before .before .before .before .before .before .before .before .before .before .before .before .search) .kept .1 .1 .1 .1 .1 .1 .0)
-
-cast-walked : tie.Need-cast-walked
-cast-walked c = omega (arith, steps-small ((c .before .before .before .before .before .before .before .before .before .before .before .before .before .before .before .before .before .before .before .before .before .before .before .before .before .before .before .before .before .before .before .pre)) ((c .before .before .before .before .before .before .before .before .before .before .before .before .search) .ensures) refl ((c .before .before .before .before .before .before .before .before .before .before .before .before .before .before .before .before .before .before .before .before .before .before .before .if1) .left) ((c .before .if2) .left))
-
-mul-steps : tie.Need-mul-steps
-mul-steps c = omega (arith, stop-on ((c .before .before .before .before .before .before .before .before .before .before .before .before .before .before .before .before .before .before .before .before .before .before .before .before .before .before .before .before .before .before .before .pre)) ((c .before .before .before .before .before .before .before .before .before .before .before .before .search) .ensures) refl ((c .before .before .before .before .before .before .before .before .before .before .before .before .before .before .before .before .before .before .before .before .before .before .before .if1) .left) ((c .before .if2) .left), held ((c .before .before .before .before .before .before .before .before .before .before .before .before .before .before .before .before .before .before .before .before .before .before .before .before .before .before .before .before .before .before .before .pre)) .placed .few)
-
-slice-read-steps : tie.Need-slice-read-steps
-slice-read-steps c = omega (arith, stop-on ((c .before .before .before .before .before .before .before .before .before .before .before .before .before .before .before .before .before .before .before .before .before .before .before .before .before .before .before .before .before .before .before .before .pre)) ((c .before .before .before .before .before .before .before .before .before .before .before .before .before .search) .ensures) refl ((c .before .before .before .before .before .before .before .before .before .before .before .before .before .before .before .before .before .before .before .before .before .before .before .before .if1) .left) ((c .before .before .if2) .left), held ((c .before .before .before .before .before .before .before .before .before .before .before .before .before .before .before .before .before .before .before .before .before .before .before .before .before .before .before .before .before .before .before .before .pre)) .room .learneds)
-
-cast-steps : tie.Need-cast-steps
-cast-steps c = omega (arith, steps-small ((c .before .before .before .before .before .before .before .before .before .before .before .before .before .before .before .before .before .before .before .before .before .before .before .before .before .before .before .before .before .before .before .before .pre)) ((c .before .before .before .before .before .before .before .before .before .before .before .before .before .search) .ensures) refl ((c .before .before .before .before .before .before .before .before .before .before .before .before .before .before .before .before .before .before .before .before .before .before .before .before .if1) .left) ((c .before .before .if2) .left))
-
-add-steps : tie.Need-add-steps
-add-steps c = omega (arith, steps-small ((c .before .before .before .before .before .before .before .before .before .before .before .before .before .before .before .before .before .before .before .before .before .before .before .before .before .before .before .before .before .before .before .before .pre)) ((c .before .before .before .before .before .before .before .before .before .before .before .before .before .search) .ensures) refl ((c .before .before .before .before .before .before .before .before .before .before .before .before .before .before .before .before .before .before .before .before .before .before .before .before .if1) .left) ((c .before .before .if2) .left))
-
-slice-aggregate-raise : tie.Need-slice-aggregate-raise
-slice-aggregate-raise c = search needs
-
-raise-requires : tie.Need-raise-requires
-raise-requires c κs = (held ((c .before .before .before .before .before .before .before .before .before .before .before .before .before .before .before .before .before .before .before .before .before .before .before .before .before .before .before .before .before .before .before .before .before .before .before .before .pre)) .room .learneds, omega (arith, sized ((c .before .before .before .before .before .before .before .before .before .before .before .before .before .before .before .before .before .before .before .before .before .before .before .before .before .before .before .before .before .before .before .before .before .before .before .before .pre)) .costs, (c .before .before .before .before .before .before .before .before .before .before .before .before .before .before .before .before .before .search) .kept .1 .1 .1 .1 .1 .1 .0), omega (arith, listed-few ((c .before .before .before .before .before .before .before .before .before .before .before .before .before .before .before .before .before .before .before .before .before .before .before .before .before .before .before .before .before .before .before .before .before .before .before .before .pre)) ((c .before .before .before .before .before .before .before .before .before .before .before .before .before .before .before .before .before .search) .ensures) refl ((c .before .before .before .before .before .before .before .before .before .before .before .before .before .before .before .before .before .before .before .before .before .before .before .before .before .before .before .before .if1) .left) ((c .before .before .before .before .before .before .if2) .left), (c .before .before .before .before .before .before .before .before .before .before .before .before .before .before .before .before .before .search) .kept .1 .1 .1 .1 .1 .1 .1 .1 .1 .1 .1 .0), omega (arith, steps-small ((c .before .before .before .before .before .before .before .before .before .before .before .before .before .before .before .before .before .before .before .before .before .before .before .before .before .before .before .before .before .before .before .before .before .before .before .before .pre)) ((c .before .before .before .before .before .before .before .before .before .before .before .before .before .before .before .before .before .search) .ensures) refl ((c .before .before .before .before .before .before .before .before .before .before .before .before .before .before .before .before .before .before .before .before .before .before .before .before .before .before .before .before .if1) .left) ((c .before .before .before .before .before .before .if2) .left)), (c .before .before .before .before .before .before .before .before .before .before .before .before .before .before .before .before .before .search) .ensures .listed)
-
-lay-requires : tie.Need-lay-requires
-lay-requires c κs = (held ((c .before .before .before .before .before .before .before .before .before .before .before .before .before .before .before .before .before .before .before .before .before .before .before .before .before .before .before .before .before .before .before .before .before .before .before .before .before .before .before .before .before .pre)) .placed .sides, stop-on ((c .before .before .before .before .before .before .before .before .before .before .before .before .before .before .before .before .before .before .before .before .before .before .before .before .before .before .before .before .before .before .before .before .before .before .before .before .before .before .before .before .before .pre)) ((c .before .before .before .before .before .before .before .before .before .before .before .before .before .before .before .before .before .before .before .before .before .before .search) .ensures) refl ((c .before .before .before .before .before .before .before .before .before .before .before .before .before .before .before .before .before .before .before .before .before .before .before .before .before .before .before .before .before .before .before .before .before .if1) .left) ((c .before .before .before .before .before .before .before .before .before .before .before .if2) .left), omega (arith, sized ((c .before .before .before .before .before .before .before .before .before .before .before .before .before .before .before .before .before .before .before .before .before .before .before .before .before .before .before .before .before .before .before .before .before .before .before .before .before .before .before .before .before .pre)) .trails, (c .before .before .before .before .before .before .before .before .before .before .before .before .before .before .before .before .before .before .before .before .before .before .search) .kept .1 .1 .1 .1 .1 .1 .1 .0), held ((c .before .before .before .before .before .before .before .before .before .before .before .before .before .before .before .before .before .before .before .before .before .before .before .before .before .before .before .before .before .before .before .before .before .before .before .before .before .before .before .before .before .pre)) .room .links)
-
-same-length-6 : tie.Need-same-length-6
-same-length-6 c = search needs
-
-same-length-7 : tie.Need-same-length-7
-same-length-7 c = search needs
-
-same-length-8 : tie.Need-same-length-8
-same-length-8 c = search needs
-
-same-length-9 : tie.Need-same-length-9
-same-length-9 c = search needs
-
-same-length-10 : tie.Need-same-length-10
-same-length-10 c = search needs
-
-returns-3 : tie.Need-returns-3
-returns-3 c = plan-found ((c .before .before .before .before .before .before .before .before .before .before .before .before .before .before .before .before .before .before .before .before .before .before .before .before .before .before .before .before .before .before .before .before .before .before .before .before .before .before .before .before .before .before .before .before .pre)) ((c .before .before .before .before .before .before .before .before .before .before .before .before .before .before .before .before .before .before .before .before .before .before .before .before .before .search) .ensures) refl ((c .before .before .before .before .before .before .before .before .before .before .before .before .before .before .before .before .before .before .before .before .before .before .before .before .before .before .before .before .before .before .before .before .before .before .before .before .if1) .left) ((c .before .before .before .before .before .before .before .before .before .before .before .before .before .before .if2) .left) _ _ _ refl ((c .before .before .before .before .before .before .before .raise) .ensures) ((c .before .before .lay) .ensures)
+returns : tie.Need-returns
+returns c = (c .before .before .before .before .before .before .before .before .before .before .before .before .before .before .replan-with) .ensures
 
 pub replan-spec : {M : Type 1} → statement M
 replan-spec =
     tie.close
     (tie.spec
-    returns
-    mul-n
-    slice-aggregate-search
-    slice-aggregate-search-2
-    slice-aggregate-search-3
-    slice-aggregate-search-4
-    search-requires
+    slice-aggregate-replan-with
+    slice-aggregate-replan-with-2
+    slice-aggregate-replan-with-3
+    slice-aggregate-replan-with-4
+    replan-with-requires
     same-length
     same-length-2
     same-length-3
     same-length-4
     same-length-5
-    returns-2
-    mul-walked
-    slice-read-walked
-    cast-walked
-    mul-steps
-    slice-read-steps
-    cast-steps
-    add-steps
-    slice-aggregate-raise
-    raise-requires
-    lay-requires
-    same-length-6
-    same-length-7
-    same-length-8
-    same-length-9
-    same-length-10
-    returns-3)
+    returns)

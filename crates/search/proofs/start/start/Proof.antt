@@ -1,6 +1,9 @@
 -- `search::start::start` meets its contract. Assumes nothing.
+use mathlib.Core.Path.{_∙_}
+-- `search::start::start` meets its contract. Assumes nothing.
 use Rattle.search.proofs.Starting.{cart-absent, cart-waits}
 use native.Mathlib.Omega.{arith}
+use lib.ListN.{length-set}
 use borrow.Author.Needs.{needs}
 use Rattle.search.proofs.start.start.Statement.{statement}
 use Rattle.search.proofs.start.start.Tie as tie
@@ -22,6 +25,9 @@ mul-cost c = search needs
 
 slice-write-cost : tie.Need-slice-write-cost
 slice-write-cost c = search needs
+
+slice-write-heap : tie.Need-slice-write-heap
+slice-write-heap c = search needs
 
 mul-key : tie.Need-mul-key
 mul-key c = search needs
@@ -48,7 +54,7 @@ same-length-3 : tie.Need-same-length-3
 same-length-3 c = search needs
 
 same-length-4 : tie.Need-same-length-4
-same-length-4 c = search needs
+same-length-4 c = (c .before .before .before .before .push) .kept .0 ∙ length-set ((c .before .before .before .before .before .before .before .before .before .before .before .before .before .before .before .before .before .before .before .before .before .before .before .before .before .before .before .args) .heap .now) 0 0
 
 same-length-5 : tie.Need-same-length-5
 same-length-5 c = search needs
@@ -66,6 +72,7 @@ start-spec =
     slice-write-mark
     mul-cost
     slice-write-cost
+    slice-write-heap
     mul-key
     shared-slice-read-key
     cast-key
