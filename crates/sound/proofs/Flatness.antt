@@ -19,7 +19,7 @@ use Rattle.plot.specs.declared.Head.{Head}
 use Rattle.plot.proofs.Geometry.{Stepped, right, down, left, up, ahead-is, stepped-ahead, stepped-high, column-right, column-left, allowed-here, allowed-on, allowed-free, allow}
 use Rattle.plot.proofs.Fit.{Fit}
 use Rattle.plot.proofs.Soundness.{sound-fit, fit-sound}
-use Rattle.sound.specs.Flat.{flat, Marked}
+use Rattle.sound.specs.Flat.{flat, Clear, Marked}
 use Rattle.sound.proofs.Scans.{same-test}
 use Rattle.sound.proofs.Rows.{Sides, unmarked, goes-on}
 use Rattle.sound.proofs.Flags.{Own, PairAt, Facts, flat-read, flat-write}
@@ -60,24 +60,24 @@ module _ {w h : ℕ} {g : List ℕ} {c d : ℕ} where
     there = eqb-true _ _ (allowed-free w h g c d a);
   }
 
-module _ (w h goal cell : ℕ) (g l k e : List ℕ) (s : Sides w h) (m : Marked w h e) where
+module _ (w h goal cell : ℕ) (g l k e zs : List ℕ) (s : Sides w h) (m : Marked w h e) (clear : Clear zs) where
   -- From the flat tests ---------------------------------------------------------------------------------------------------------
 
-  module _ (f : Facts w (cells w h) goal cell g l k e) where
+  module _ (f : Facts w (cells w h) goal cell g l k e zs) where
     -- a pair by its second cell
     right-pair : (i y : ℕ) → y ≡ i + 1 → y < cells w h → PairAt g l k (getD e i 0) i y 1 3
-    right-pair i y q b = rw q (f .right i (omega arith))
+    right-pair i y q on = rw q (f .right i (omega arith))
 
-    below-pair : (i y : ℕ) → y ≡ i + w → y < cells w h → PairAt g l k 0 i y 2 4
-    below-pair i y q b = rw q (f .below i (omega arith))
+    below-pair : (i y : ℕ) → y ≡ i + w → y < cells w h → PairAt g l k (getD zs i 0) i y 2 4
+    below-pair i y q on = rw q (f .below i (omega arith))
 
     near : (c d y : ℕ) → c < cells w h → y < cells w h → getD g c 0 ≡ 0 → getD g y 0 ≡ 0 → Stepped w h c d y → gap (getD l c 0) (getD l y 0) ≤ 1
     near c d y b on a there (right i) = right-pair c y refl on .near a there (unmarked w h e (s .wide) m c i)
-    near c d y b on a there (down i) = below-pair c y refl on .near a there refl
+    near c d y b on a there (down i) = below-pair c y refl on .near a there (clear .zero c)
     near c d y b on a there (left i) =
         let x = unmarked w h e (s .wide) m (c - 1) (omega (arith, column-left w c (s .wide) i, mod-lt c (s .wide))) in
         omega (arith, right-pair (c - 1) c (omega (arith, mod-le c w)) b .near there a x)
-    near c d y b on a there (up i) = omega (arith, below-pair (c - w) c (omega arith) b .near there a refl)
+    near c d y b on a there (up i) = omega (arith, below-pair (c - w) c (omega arith) b .near there a (clear .zero (c - w)))
 
     -- where c's link d leads
     leading : (c d : ℕ) → c < cells w h → getD k c 0 ≡ d → d ≢ 0 → d ≤ 4 → Led w h g c d
@@ -174,20 +174,20 @@ module _ (w h goal cell : ℕ) (g l k e : List ℕ) (s : Sides w h) (m : Marked 
           (rw v at (r .there), unmarked w h e (s .wide) m i (omega (arith, x, mod-lt (i + 1) (s .wide))));
     }
 
-    below-of : (i : ℕ) → i < cells w h - w → PairAt g l k 0 i (i + w) 2 4
+    below-of : (i : ℕ) → i < cells w h - w → PairAt g l k (getD zs i 0) i (i + w) 2 4
     below-of i b = record {
       near = λ a there z. close-of i 2 (i + w) (omega arith) (omega arith) a there (down (omega arith));
       onward = λ q.
           let r = link-of i 2 (omega arith) q (omega arith) in
-          (rw (went (r .by) .downward refl .1) at (r .there), refl);
+          (rw (went (r .by) .downward refl .1) at (r .there), clear .zero i);
       back = λ q.
           let r = link-of (i + w) 4 (omega arith) q (omega arith) in
           let u = went (r .by) .upward refl in
           let v : r .to ≡ i = omega (arith, u .1) in
-          (rw v at (r .there), refl);
+          (rw v at (r .there), clear .zero i);
     }
 
-    fit-facts : Facts w (cells w h) goal cell g l k e
+    fit-facts : Facts w (cells w h) goal cell g l k e zs
     fit-facts = record {
       own = own-of;
       small = λ c b. omega (arith, t .learned c b);
@@ -210,12 +210,12 @@ module _ (w h goal cell : ℕ) (g l k e : List ℕ) (s : Sides w h) (m : Marked 
         go (no q) = absurd (t .links goal inside q .away refl)
 
 -- THE FLAT TESTS ARE `sound`.
-pub flat-sound : (head : Head) (g l k e : List ℕ) → Sides (head .width) (head .height) → Marked (head .width) (head .height) e → head .goal < cellsOf head → flat (head .width) (cellsOf head) (head .goal) (head .cell) g l k e ≡ sound head (lentWith g l k)
-flat-sound head g l k e s m inside =
+pub flat-sound : (head : Head) (g l k e zs : List ℕ) → Sides (head .width) (head .height) → Marked (head .width) (head .height) e → Clear zs → head .goal < cellsOf head → flat (head .width) (cellsOf head) (head .goal) (head .cell) g l k e zs ≡ sound head (lentWith g l k)
+flat-sound head g l k e zs s m clear inside =
     let w = head .width in
     let h = head .height in
     let goal = head .goal in
     let cell = head .cell in
-    same-test (flat w (cells w h) goal cell g l k e) (sound head (lentWith g l k))
-    (λ t. fit-sound head (lentWith g l k) (facts-fit w h goal cell g l k e s m (flat-read w (cells w h) goal cell g l k e t)))
-    (λ t. flat-write w (cells w h) goal cell g l k e (fit-facts w h goal cell g l k e s m (sound-fit head (lentWith g l k) t) inside))
+    same-test (flat w (cells w h) goal cell g l k e zs) (sound head (lentWith g l k))
+    (λ t. fit-sound head (lentWith g l k) (facts-fit w h goal cell g l k e zs s m clear (flat-read w (cells w h) goal cell g l k e zs t)))
+    (λ t. flat-write w (cells w h) goal cell g l k e zs (fit-facts w h goal cell g l k e zs s m clear (sound-fit head (lentWith g l k) t) inside))

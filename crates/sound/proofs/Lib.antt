@@ -3,3 +3,4 @@ pub mod Scans
 pub mod Flags
 pub mod Flatness
 pub mod Verdicts
+pub mod Spreading

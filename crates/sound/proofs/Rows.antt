@@ -14,7 +14,7 @@ use lib.ListN.{length, getD, set, replicate}
 use lib.Seq.{getD-set-same, getD-set-other}
 use Rattle.plot.specs.Plot.{maxCells, badSides, cells, column}
 use Rattle.plot.proofs.Turns.{zeros-at}
-use Rattle.plot.proofs.Accepting.{side-wide, cells-few, row-within}
+use Rattle.plot.proofs.Accepting.{side-wide, side-high, cells-few, row-within}
 use Rattle.sound.specs.Flat.{Clear, Marked}
 
 -- row r of h rows of w cells lies within them, and the next begins where it ends
@@ -27,6 +27,7 @@ row-next r w = rw (add-one, suc-mul)
 -- good sides
 pub record Sides (w h : ℕ) : Type 0 where
   pub wide : 0 < w
+  pub high : 0 < h
   pub few : cells w h ≤ maxCells
   pub turned : h * w ≡ cells w h
   pub row : w ≤ cells w h
@@ -34,10 +35,15 @@ pub record Sides (w h : ℕ) : Type 0 where
 pub good-sides : (w h : ℕ) → badSides w h ≡ false → Sides w h
 good-sides w h e = record {
   wide = side-wide w h e;
+  high = side-high w h e;
   few = cells-few w h e;
   turned = mul-comm h w;
   row = row-within w h e;
 }
+
+-- the first row's end is marked
+pub first-end : (w h : ℕ) (end : List ℕ) → 0 < w → 0 < h → Marked w h end → getD end (w - 1) 0 ≡ 1
+first-end w h end wide high m = let e : 0 * w + (w - 1) ≡ w - 1 = omega arith in rw e at (m .last 0 (w - 1) high (omega arith))
 
 -- The marks are written -------------------------------------------------------------------------------------------------------
 

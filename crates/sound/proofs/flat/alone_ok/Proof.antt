@@ -1,8 +1,8 @@
--- `sound::flat::flags` meets its contract: the passes' results together are `flat`. Assumes nothing.
+-- `sound::flat::alone_ok` meets its contract: the passes' results together. Assumes nothing.
+use Rattle.sound.proofs.Flags.{alone-is}
 use native.Mathlib.Omega.{arith}
-use Rattle.sound.proofs.Flags.{flat-is}
-use Rattle.sound.proofs.flat.flags.Statement.{statement}
-use Rattle.sound.proofs.flat.flags.Tie as tie
+use Rattle.sound.proofs.flat.alone_ok.Statement.{statement}
+use Rattle.sound.proofs.flat.alone_ok.Tie as tie
 
 cells-ok-requires : tie.Need-cells-ok-requires
 cells-ok-requires c κs = omega arith
@@ -15,18 +15,6 @@ cast-small-ok c = omega arith
 
 small-ok-requires : tie.Need-small-ok-requires
 small-ok-requires c κs = omega arith
-
-sub-rights-ok : tie.Need-sub-rights-ok
-sub-rights-ok c = omega arith
-
-rights-ok-requires : tie.Need-rights-ok-requires
-rights-ok-requires c κs = omega arith
-
-sub-belows-ok : tie.Need-sub-belows-ok
-sub-belows-ok c = omega arith
-
-belows-ok-requires : tie.Need-belows-ok-requires
-belows-ok-requires c κs = omega arith
 
 sub-edges-ok : tie.Need-sub-edges-ok
 sub-edges-ok c = omega arith
@@ -56,20 +44,16 @@ shared-slice-read-here-3 : tie.Need-shared-slice-read-here-3
 shared-slice-read-here-3 c = omega arith
 
 returns : tie.Need-returns
-returns c = flat-is _ _ _ _ _ _ _ _ _ _ _ _ _ (c .before .before .before .before .before .before .before .before .before .cells-ok .ensures) (c .before .before .before .before .before .before .before .before .small-ok .ensures) (c .before .before .before .before .before .before .before .rights-ok .ensures) (c .before .before .before .before .before .before .belows-ok .ensures) (c .before .before .before .before .before .edges-ok .ensures)
+returns c = alone-is _ _ _ _ _ _ _ _ _ _ ((c .before .before .before .before .before .before .before .cells-ok) .ensures) ((c .before .before .before .before .before .before .small-ok) .ensures) ((c .before .before .before .before .before .edges-ok) .ensures)
 
-pub flags-spec : {M : Type 1} → statement M
-flags-spec =
+pub alone-ok-spec : {M : Type 1} → statement M
+alone-ok-spec =
     tie.close
     (tie.spec
     cells-ok-requires
     sub-small-ok
     cast-small-ok
     small-ok-requires
-    sub-rights-ok
-    rights-ok-requires
-    sub-belows-ok
-    belows-ok-requires
     sub-edges-ok
     edges-ok-requires
     shared-slice-read-edges
