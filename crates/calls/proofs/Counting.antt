@@ -48,7 +48,3 @@ module _ {head : Head} {p : Lent} {buffer l : List ℕ} {k : ℕ} (f : Counted h
 
   pub counted-long : k ≡ length (take k l)
   counted-long = rw counted-back (f .count)
-
--- the promise leaves nothing open: one count, and one buffer
-pub counted-same : {head : Head} {p : Lent} {buffer l l′ : List ℕ} {k k′ : ℕ} → Counted head p buffer k l → Counted head p buffer k′ l′ → (k ≡ k′) × (l ≡ l′)
-counted-same f g = (f .count ∙ sym (g .count), ap (λ (a : AfterList). a .buffer) (f .leaves ∙ sym (g .leaves)))

@@ -39,14 +39,8 @@ pub fn advance(head: Head, ground: &[u8], learned: &[u16], link: &mut [u8]) -> M
             step: Step::Refused(Reason::NoRoute),
         };
     }
-    let next = beside(
-        width,
-        height,
-        width * height,
-        cell,
-        cell % width,
-        link[cell],
-    );
+    let d = link[cell];
+    let next = beside(width, height, width * height, cell, cell % width, d);
     link[cell] = 0;
     Moved {
         head: head.moved(next),

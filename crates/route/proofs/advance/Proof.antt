@@ -20,14 +20,14 @@ same-length c = search needs
 returns-2 : tie.Need-returns-2
 returns-2 c = move-lost _ _ (c .before .before .before .before .before .before .before .pre) _ (c .before .before .before .if1 .left) (c .before .leads .ensures) (not-true _ (c .if2 .taken))
 
+slice-read-d : tie.Need-slice-read-d
+slice-read-d c = omega (arith, accepts-walkable _ _ (c .before .before .before .before .before .before .before .before .pre) .inside, accepts-walkable _ _ (c .before .before .before .before .before .before .before .before .pre) .links)
+
 mul-beside : tie.Need-mul-beside
-mul-beside c = omega (arith, cells-few _ _ (accepts-walkable _ _ (c .before .before .before .before .before .before .before .pre) .sides))
+mul-beside c = omega (arith, cells-few _ _ (accepts-walkable _ _ (c .before .before .before .before .before .before .before .before .pre) .sides))
 
 rem-beside : tie.Need-rem-beside
-rem-beside c = side-wide _ _ (accepts-walkable _ _ (c .before .before .before .before .before .before .before .pre) .sides)
-
-slice-read-beside : tie.Need-slice-read-beside
-slice-read-beside c = omega (arith, accepts-walkable _ _ (c .before .before .before .before .before .before .before .before .pre) .inside, accepts-walkable _ _ (c .before .before .before .before .before .before .before .before .pre) .links)
+rem-beside c = side-wide _ _ (accepts-walkable _ _ (c .before .before .before .before .before .before .before .before .pre) .sides)
 
 beside-requires : tie.Need-beside-requires
 beside-requires c κs = (refl, accepts-walkable _ _ (c .before .before .before .before .before .before .before .before .pre) .inside, omega (arith, cells-few _ _ (accepts-walkable _ _ (c .before .before .before .before .before .before .before .before .pre) .sides)), row-within _ _ (accepts-walkable _ _ (c .before .before .before .before .before .before .before .before .pre) .sides), refl)
@@ -52,9 +52,9 @@ advance-spec =
     leads-requires
     same-length
     returns-2
+    slice-read-d
     mul-beside
     rem-beside
-    slice-read-beside
     beside-requires
     slice-write-link
     moved-requires

@@ -1,5 +1,6 @@
 -- `calls::listing::list` meets its contract: the front is counted, and starts where the buffer starts (`Counting`). Assumes nothing.
 use mathlib.Core.Path.{refl}
+use native.Mathlib.Omega.{arith}
 use Rattle.calls.proofs.Counting.{counted-back, counted-long}
 use Rattle.calls.proofs.listing.list.Statement.{statement}
 use Rattle.calls.proofs.listing.list.Tie as tie
@@ -8,7 +9,7 @@ list-count-requires : tie.Need-list-count-requires
 list-count-requires c κs = tt
 
 slice-aggregate-result : tie.Need-slice-aggregate-result
-slice-aggregate-result c = counted-long (c .before .before .before .list-count .ensures)
+slice-aggregate-result c = omega (arith, counted-long (c .before .before .before .list-count .ensures))
 
 returns : tie.Need-returns
 returns c = (counted-back (c .before .before .before .list-count .ensures), refl)
