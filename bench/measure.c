@@ -10,13 +10,14 @@ typedef uint8_t u8;
 typedef uint16_t u16;
 typedef uint64_t u64;
 
-enum { W = 64, H = 64, N = W * H, MOST = 400 };
+enum { W = 64, H = 64, N = W * H, MOST = 4000 };
 
 #define LENT const u8 *, size_t, u16 *, size_t, u8 *, size_t
 #define SCRATCH u8 *, size_t, u16 *, size_t, u8 *, size_t
 size_t probe_sound(size_t, size_t, size_t, size_t, const u8 *, size_t, const u16 *, size_t, const u8 *, size_t);
 size_t probe_plan(size_t, size_t, size_t, size_t, LENT, SCRATCH);
 size_t probe_core(size_t, size_t, size_t, size_t, LENT, SCRATCH, u64 *, size_t, u16 *, size_t, u8 *, size_t, u16 *, size_t);
+size_t probe_own(size_t, size_t, size_t, size_t, LENT, SCRATCH);
 int c_sound(size_t, size_t, size_t, size_t, const u8 *, const u16 *, const u8 *);
 size_t c_plan(size_t, size_t, size_t, size_t, const u8 *, u16 *, u8 *, u8 *, u16 *, u8 *, size_t *);
 
@@ -162,13 +163,13 @@ static void least(u64 *best, u64 since) {
 }
 
 typedef struct {
-    u64 core, peer, call, sound, flags;
+    u64 core, own, peer, call, sound, flags;
     size_t cells;
 } Times;
 
 // One state, planned again by each; ends the program where they differ.
 static Times plan_again(const State *s, int times) {
-    Times b = {~0ULL, ~0ULL, ~0ULL, ~0ULL, ~0ULL, 0};
+    Times b = {~0ULL, ~0ULL, ~0ULL, ~0ULL, ~0ULL, ~0ULL, 0};
     for (int r = 0; r < times; r++) {
         u64 t;
         memcpy(learned1, s->learned, sizeof learned1);
@@ -189,6 +190,11 @@ static Times plan_again(const State *s, int times) {
         memcpy(learned1, s->learned, sizeof learned1);
         memcpy(link1, s->link, N);
         t = clock_();
+        size_t o = probe_own(W, H, s->goal, s->cell, s->ground, N, learned1, N, link1, N, mark1, N, cost1, N, trail1, N);
+        least(&b.own, t);
+        memcpy(learned1, s->learned, sizeof learned1);
+        memcpy(link1, s->link, N);
+        t = clock_();
         size_t d = probe_plan(W, H, s->goal, s->cell, s->ground, N, learned1, N, link1, N, mark1, N, cost1, N, trail1, N);
         least(&b.call, t);
         t = clock_();
@@ -197,7 +203,7 @@ static Times plan_again(const State *s, int times) {
         t = clock_();
         int y = c_sound(W, H, s->goal, s->cell, s->ground, s->learned, s->link);
         least(&b.flags, t);
-        if (d != c || x || y) {
+        if (o != c || d != c || x || y) {
             printf("the call or a soundness test differs\n");
             exit(1);
         }
@@ -208,7 +214,7 @@ static Times plan_again(const State *s, int times) {
 static void ground_kinds(int times) {
     static const char *names[] = {"random 10 %", "random 25 %", "random 40 %", "rooms", "maze", "nursery rows"};
     static u8 truth[N];
-    printf("%-13s %5s %8s | %8s %8s %8s | %s\n", "ground", "plans", "expanded", "core / C", "sound / C", "call / C", "cycles: core, C, call, sound, C");
+    printf("each to the same work in C\n%-13s %5s %8s | %5s %9s %5s %5s | %s\n", "ground", "plans", "expanded", "core", "own space", "call", "sound", "cycles: core, own, C, call, sound, C");
     for (int kind = 0; kind < 6; kind++) {
         Times sum = {0};
         logged = 0;
@@ -223,11 +229,13 @@ static void ground_kinds(int times) {
         }
         for (size_t i = 0; i < logged; i++) {
             Times t = plan_again(&log_[i], times);
-            sum.core += t.core, sum.peer += t.peer, sum.call += t.call, sum.sound += t.sound, sum.flags += t.flags, sum.cells += t.cells;
+            sum.core += t.core, sum.own += t.own, sum.peer += t.peer, sum.call += t.call, sum.sound += t.sound, sum.flags += t.flags, sum.cells += t.cells;
         }
         double n = logged;
-        printf("%-13s %5zu %8.1f | %8.2f %9.2f %8.2f | %.0f %.0f %.0f %.0f %.0f\n", names[kind], logged, sum.cells / n, (double)sum.core / sum.peer,
-               (double)sum.sound / sum.flags, (double)sum.call / sum.peer, sum.core / n, sum.peer / n, sum.call / n, sum.sound / n, sum.flags / n);
+        double peer = sum.peer, flags = sum.flags;
+        printf("%-13s %5zu %8.1f | %5.2f %9.2f %5.2f %5.2f | %.0f %.0f %.0f %.0f %.0f %.0f\n", names[kind], logged, sum.cells / n, sum.core / peer,
+               sum.own / peer, sum.call / peer, sum.sound / flags, sum.core / n, sum.own / n, peer / n, sum.call / n, sum.sound / n, flags / n);
+        if (logged == MOST) printf("(the first %d plans of that ground alone)\n", MOST);
     }
 }
 

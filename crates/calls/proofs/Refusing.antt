@@ -35,5 +35,5 @@ module _ {v : Verdict} {why : Reason} (r : v ≡ Refused why) where
   unfolding moved
   move-refused head p e = rw (moved, sym e ∙ r)
 
-pub plan-passed : {head : Head} {p : Lent} {s : Scratch} {v : Verdict} → v ≡ planCheck head p s → v ≡ Accepted → Passed head p s
-plan-passed e r = record { accepted = sym e ∙ r }
+pub plan-tested : {head : Head} {p : Lent} {s : Scratch} {v : Verdict} → v ≡ planCheck head p s → v ≡ Accepted → Passed head p s
+plan-tested e r = record { accepted = sym e ∙ r }

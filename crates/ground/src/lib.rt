@@ -1,4 +1,4 @@
-// What layout and report write once they are accepted.
+// The cores of layout and report: what they write once they are accepted. They are no entry points; the calls are in `calls`.
 use fills::clear;
 use plot::Changed;
 use plot::Head;

@@ -1,13 +1,14 @@
 -- Laws of `linked`, one for each way in which a turn of the walk back goes: b is the cell before c.
 -- Assumes nothing.
 use Prim.Native.Nat.{ℕ, zero, suc, _-_, _≤_, _<_}
-use mathlib.Core.Path.{_≡_, refl, ap}
+use mathlib.Core.Path.{_≡_, refl, sym}
 use mathlib.Core.List.{List}
 use native.Mathlib.Omega.{arith}
-use borrow.Author.Tests.{lt-ltb, le-ltb}
+use borrow.Author.Tests.{le-ltb}
 use lib.ListN.{getD, set}
 use Rattle.plot.specs.Plot.{cells, behind}
 use Rattle.plot.specs.Plan.{linked}
+use Rattle.plot.proofs.Trailing as trailing
 
 module _ (w h : ℕ) (trail : List ℕ) where
   pub linked-done : (v c : ℕ) (link : List ℕ) → v ≡ 0 → linked w h trail v c link ≡ link
@@ -22,8 +23,7 @@ module _ (w h : ℕ) (trail : List ℕ) where
 
   pub linked-turn : (v c b : ℕ) (link : List ℕ) → (v ≡ 0 → ⊥) → b ≡ behind w h c (getD trail c 0) → b < cells w h
       → linked w h trail (v - 1) b (set link b (getD trail c 0)) ≡ linked w h trail v c link
-  unfolding linked
   linked-turn zero c b link some e on = absurd (some refl)
   linked-turn (suc v) c b link some e on =
       let q : suc v - 1 ≡ v = omega arith in
-      rw (q, ← e, lt-ltb b (cells w h) on, linked) (ap (λ (k : ℕ). linked w h trail v k (set link k (getD trail c 0))) e)
+      rw q (sym (trailing.linked-turn w h trail v c b link (sym e) on))

@@ -6,12 +6,12 @@ use mathlib.Core.List.{List}
 use native.Mathlib.Decide.{ℕ-discrete, decLt}
 use native.Mathlib.Numerals.{add-one}
 use native.Mathlib.Omega.{arith}
-use borrow.Author.Tests.{eq-eqb, ne-eqb}
 use lib.ListN.{length, getD, set, length-set}
 use lib.Seq.{getD-set-same, getD-set-other, ext-getD}
 use Rattle.plot.specs.Turns.{filled}
 use Rattle.plot.specs.Plan.{lesson}
 use Rattle.plot.proofs.Turns.{length-filled, filled-above, filled-at}
+use Rattle.plot.proofs.Learning.{lesson-yes, lesson-no}
 use Rattle.learn.specs.Listed.{Listed, raisedTo}
 
 -- l is l₀ raised along the first k entries
@@ -56,16 +56,6 @@ module _ (steps : ℕ) (cost list l : List ℕ) where
           below (yes z) = absurd (d (sym e ∙ ap (λ (m : ℕ). getD list m 0) z))
           below (no z) = omega arith
 
--- the lesson of a cell that was expanded, and of another
-module _ (steps : ℕ) (l mark cost : List ℕ) (x : ℕ) where
-  lesson-one : getD mark x 0 ≡ 2 → lesson steps l mark cost x ≡ steps - getD cost x 0
-  unfolding lesson
-  lesson-one e = rw (eq-eqb (getD mark x 0) 2 e)
-
-  lesson-other : (getD mark x 0 ≡ 2 → ⊥) → lesson steps l mark cost x ≡ getD l x 0
-  unfolding lesson
-  lesson-other e = rw (ne-eqb (getD mark x 0) 2 e)
-
 -- along the whole list
 pub raise-end : {steps : ℕ} {cost list : List ℕ} {k : ℕ} {l₀ l : List ℕ} {n : ℕ} {mark : List ℕ} {count : ℕ}
     → Raised steps cost list k l₀ l → Listed n mark count list → k ≡ count → n ≤ length l₀ → l ≡ filled n (lesson steps l₀ mark cost) l₀
@@ -75,9 +65,9 @@ raise-end {steps} {cost} {list} {k} {l₀} {l} {n} {mark} {count} r a e room =
     on : (x : ℕ) → x < n → Dec (getD mark x 0 ≡ 2) → getD (raisedTo steps cost list count l₀) x 0 ≡ lesson steps l₀ mark cost x
     on x i (yes m) =
         let p = a .each-one x i m in
-        raised-one steps cost list l₀ count x (p .index) (omega arith) (omega arith) (p .named) ∙ sym (lesson-one steps l₀ mark cost x m)
+        raised-one steps cost list l₀ count x (p .index) (omega arith) (omega arith) (p .named) ∙ sym (lesson-yes steps l₀ mark cost x m)
     on x i (no m) =
-        raised-other steps cost list l₀ count x (λ j b q. m (ap (λ (y : ℕ). getD mark y 0) (sym q) ∙ a .marked j b)) ∙ sym (lesson-other steps l₀ mark cost x m)
+        raised-other steps cost list l₀ count x (λ j b q. m (ap (λ (y : ℕ). getD mark y 0) (sym q) ∙ a .marked j b)) ∙ sym (lesson-no steps l₀ mark cost x m)
 
     at : (x : ℕ) → Dec (x < n) → getD (raisedTo steps cost list count l₀) x 0 ≡ getD (filled n (lesson steps l₀ mark cost) l₀) x 0
     at x (yes i) = on x i (ℕ-discrete (getD mark x 0) 2) ∙ sym (filled-at n _ l₀ room x i)

@@ -9,6 +9,7 @@ use Rattle.plot.specs.Plan.{planCheck}
 use Rattle.plot.specs.declared.Head.{Head}
 use Rattle.plot.specs.declared.Verdict.the-variants.{Accepted}
 
+-- (a record, so that laws over it find the head, the lists and the scratch by themselves)
 pub record Passed (head : Head) (p : Lent) (s : Scratch) : Type 0 where
   pub accepted : planCheck head p s ≡ Accepted
 

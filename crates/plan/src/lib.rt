@@ -12,7 +12,7 @@ ghost use Rattle.plot.specs.Plan.{afterPlan, planned};
 ghost use Rattle.plan.specs.Passed.{Passed, Planable};
 
 // Document 01's plan once its tests have passed. Whoever plans often lends the working space too, the queue, the stop test's
-// memory and the list of expanded cells: what it holds at first does not matter, so that nothing but the memory is cleared.
+// memory and the list of expanded cells. What it holds at first does not matter, and of it only the memory is cleared.
 pub fn replan_with(
     head: Head,
     ground: &[u8],
@@ -74,7 +74,8 @@ pub fn replan_with(
     }
 }
 
-// The same with a working space of its own: 52 KiB of stack, which are cleared.
+// The same with a working space of its own, 52 KiB of stack, which is cleared. (The queue has an entry before its keys, and
+// room for two behind them.)
 pub fn replan(
     head: Head,
     ground: &[u8],

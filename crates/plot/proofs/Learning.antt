@@ -39,12 +39,12 @@ abbrev pub learnedAfter : (w h : ℕ) → Lent → (t : ℕ) → Scratch → Lis
 learnedAfter w h p t s = improved w h p t s .learned
 
 module _ (v : ℕ) (learned mark cost : List ℕ) (x : ℕ) where
-  lesson-yes : getD mark x 0 ≡ 2 → lesson v learned mark cost x ≡ v - getD cost x 0
+  pub lesson-yes : getD mark x 0 ≡ 2 → lesson v learned mark cost x ≡ v - getD cost x 0
   unfolding lesson
   lesson-yes e = rw e
 
   -- unseen and waiting cells keep what they have
-  lesson-no : getD mark x 0 ≢ 2 → lesson v learned mark cost x ≡ getD learned x 0
+  pub lesson-no : getD mark x 0 ≢ 2 → lesson v learned mark cost x ≡ getD learned x 0
   unfolding lesson
   lesson-no n = go (getD mark x 0) refl n
     where

@@ -133,8 +133,8 @@ module _ (w h : ℕ) (link : List ℕ) (c : ℕ) where
 
 module _ {w h goal cell : ℕ} (p : Lent) (r : Placed w h goal cell) (m : Room (cells w h) p) (f : Fit w h goal cell p) (c : ℕ) (on : c < cells w h) (other : c ≢ cell) where
   -- once c, which was free, is blocked
-  abbrev after : Lent
-  after = lentWith (set (p .ground) c 1) (p .learned) (linksOnceBlocked w h (p .link) c)
+  abbrev cut : Lent
+  cut = lentWith (set (p .ground) c 1) (p .learned) (linksOnceBlocked w h (p .link) c)
 
   allowed-before : (x d : ℕ) → allowed w h (set (p .ground) c 1) x d ≡ true → allowed w h (p .ground) x d ≡ true
   allowed-before x d e =
@@ -161,7 +161,7 @@ module _ {w h goal cell : ℕ} (p : Lent) (r : Placed w h goal cell) (m : Room (
       go (yes q) = rw q (omega (arith, getD-set-same (p .ground) c 1 0 (omega (arith, m .grounds))))
       go (no d) = omega (arith, getD-set-other (p .ground) c x 1 0 d, f .ground x i)
 
-  pub after-fit : Fit w h goal cell after
+  pub after-fit : Fit w h goal cell cut
   after-fit = record {
     ground = ground-after;
     cart = free-after (p .ground) c cell (λ e. other (sym e)) (f .cart);
@@ -171,7 +171,7 @@ module _ {w h goal cell : ℕ} (p : Lent) (r : Placed w h goal cell) (m : Room (
     links = links-after;
   }
 
-  pub after-room : Room (cells w h) after
+  pub after-room : Room (cells w h) cut
   after-room = record {
     grounds = rw length-set (m .grounds);
     learneds = m .learneds;

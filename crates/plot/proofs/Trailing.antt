@@ -79,7 +79,7 @@ set-linked {w} {h} {goal} {ground} link b d r i away may all c j n = go (ℕ-dis
         linked-at link (set link b d) k (all c j (λ z. n (k ∙ z)))
 
 -- one step of laying, where the trail stays on the plot
-linked-turn : (w h : ℕ) (trail : List ℕ) (v c b : ℕ) (link : List ℕ) → behind w h c (getD trail c 0) ≡ b → b < cells w h → linked w h trail (suc v) c link ≡ linked w h trail v b (set link b (getD trail c 0))
+pub linked-turn : (w h : ℕ) (trail : List ℕ) (v c b : ℕ) (link : List ℕ) → behind w h c (getD trail c 0) ≡ b → b < cells w h → linked w h trail (suc v) c link ≡ linked w h trail v b (set link b (getD trail c 0))
 unfolding linked
 linked-turn w h trail v c b link e on = rw (e, lt-ltb b (cells w h) on, linked) (ap (λ (k : ℕ). linked w h trail v k (set link k (getD trail c 0))) e)
 

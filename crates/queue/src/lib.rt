@@ -3,7 +3,7 @@
 
 ghost use mathlib.Core.Path.{_≡_};
 ghost use Prim.Native.Nat.{_+_, _*_, _%_, _<_, _≤_};
-ghost use lib.ListN.{length, getD};
+ghost use lib.ListN.{getD};
 ghost use Rattle.queue.specs.Queue.{none, keyOf, Lesser, Queue, Rising, Risen, Gap, Sunk, Lowered, Absent, Waits, Popped};
 
 // No cell: greater than every key.

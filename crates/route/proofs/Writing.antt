@@ -2,9 +2,7 @@
 -- Assumes nothing.
 use Prim.Native.Nat.{ℕ, suc, _+_, _-_, _≤_, _<_}
 use mathlib.Core.Path.{_≡_, refl, sym, ap, _∙_}
-use mathlib.Core.Logic.{_≢_}
 use mathlib.Core.List.{List}
-use native.Mathlib.Nat.{mod-le}
 use native.Mathlib.Numerals.{add-one}
 use native.Mathlib.Omega.{arith}
 use lib.ListN.{length, set, length-set}
@@ -12,37 +10,8 @@ use lib.Seq.{sets, sets-eq}
 use Rattle.plot.specs.Plot.{cells}
 use Rattle.plot.specs.Lent.{fronted}
 use Rattle.plot.specs.Route.{next, cellsFrom}
-use Rattle.plot.proofs.Geometry.{Stepped, right, down, left, up}
 use Rattle.plot.proofs.Listing.{cells-long}
 use Rattle.route.specs.Onward.{Onward, ends, goes}
-
--- Steps that stay on the plot -----------------------------------------------------------------------------------------------------
-
-pub to-right : {w h c d y : ℕ} → Stepped w h c d y → d ≡ 1 → c + 1 ≡ y
-to-right (right _) e = refl
-to-right (down _) e = absurd (omega arith)
-to-right (left _) e = absurd (omega arith)
-to-right (up _) e = absurd (omega arith)
-
-pub to-below : {w h c d y : ℕ} → Stepped w h c d y → d ≡ 2 → c + w ≡ y
-to-below (right _) e = absurd (omega arith)
-to-below (down _) e = refl
-to-below (left _) e = absurd (omega arith)
-to-below (up _) e = absurd (omega arith)
-
-pub to-left : {w h c d y : ℕ} → Stepped w h c d y → d ≡ 3 → (c - 1 ≡ y) × (1 ≤ c)
-to-left (right _) e = absurd (omega arith)
-to-left (down _) e = absurd (omega arith)
-to-left {w} {h} {c} (left l) e = (refl, omega (arith, mod-le c w))
-to-left (up _) e = absurd (omega arith)
-
-pub to-above : {w h c d y : ℕ} → Stepped w h c d y → d ≢ 1 → d ≢ 2 → d ≢ 3 → (c - w ≡ y) × (w ≤ c)
-to-above (right _) n₁ n₂ n₃ = absurd (n₁ refl)
-to-above (down _) n₁ n₂ n₃ = absurd (n₂ refl)
-to-above (left _) n₁ n₂ n₃ = absurd (n₃ refl)
-to-above (up l) n₁ n₂ n₃ = (refl, l)
-
--- The walk ------------------------------------------------------------------------------------------------------------------------
 
 module _ {w h : ℕ} {link : List ℕ} where
   pub onward-here : {v c : ℕ} → Onward w h link v c → c < cells w h
@@ -52,10 +21,6 @@ module _ {w h : ℕ} {link : List ℕ} where
   onward-next : {v c : ℕ} → Onward w h link v c → 0 < v → Onward w h link (v - 1) (next w h link c)
   onward-next (ends i) some = absurd (omega arith)
   onward-next (goes {v} i rest) some = let e : suc v - 1 ≡ v = omega arith in rw e rest
-
-  -- the cell to which a link on the way leads
-  pub next-inside : {v c : ℕ} → Onward w h link v c → 0 < v → next w h link c < cells w h
-  next-inside o some = onward-here (onward-next o some)
 
 -- after i of v steps from c₀ the walk is at c, and l holds the i cells that it left
 pub record Writing (w h : ℕ) (link : List ℕ) (v c₀ : ℕ) (l₀ : List ℕ) (i c : ℕ) (l : List ℕ) : Type 0 where

@@ -1,4 +1,4 @@
-// What move and list do where the data are accepted.
+// The cores of move and list, over data that were accepted. They are no entry points; the calls are in crate `calls`.
 use plot::Head;
 use plot::Moved;
 use plot::Reason;
@@ -8,8 +8,6 @@ use steps::beside;
 use steps::routes::leads;
 use steps::routes::stands;
 ghost use mathlib.Core.Path.{_≡_};
-ghost use Prim.Native.Nat.{_<_, _≤_};
-ghost use Rattle.plot.specs.Plot.{cells, ahead};
 ghost use Rattle.plot.specs.Lent.{lentWith, fronted, after};
 ghost use Rattle.plot.specs.Route.{cellsFrom};
 ghost use Rattle.plot.specs.Move.{moved};
@@ -48,7 +46,7 @@ pub fn advance(head: Head, ground: &[u8], learned: &[u16], link: &mut [u8]) -> M
     }
 }
 
-// Whether list is refused: the buffer is asked after the route.
+// Whether list is refused: the buffer is asked after the route. (The ground is lent for the contract alone, here and below.)
 pub fn list_check(
     head: Head,
     ground: &[u8],
@@ -71,33 +69,17 @@ pub fn list_check(
     Verdict::Accepted
 }
 
-// The cell to which a link leads that stays on the plot: so no column is asked, and nothing is divided.
-fn led_to(width: usize, height: usize, c: usize, d: u8) -> usize
-    requires { ⌜ (ahead width height c d < cells width height) × (c ≤ 65535) × (width ≤ 65535) ⌝ }
-    ensures { λ r. ⌜ r ≡ ahead width height c d ⌝ }
-{
-    if d == 1 {
-        return c + 1;
-    }
-    if d == 2 {
-        return c + width;
-    }
-    if d == 3 {
-        return c - 1;
-    }
-    c - width
-}
-
 // The cells on v steps along links, from c on, into the front of the buffer.
 fn follow(width: usize, height: usize, link: &[u8], buffer: &mut [u16], v: usize, c: usize)
     requires { ⌜ Writable width height v c (now link) (now buffer) ⌝ }
     ensures { λ _. ⌜ now (buffer .exit) ≡ fronted (cellsFrom width height (now (link .entry)) v c) (now (buffer .entry)) ⌝ }
 {
+    let n = width * height;
     let mut at = c;
     let mut i = 0;
     while i < v {
         buffer[i] = at as u16;
-        at = led_to(width, height, at, link[at]);
+        at = beside(width, height, n, at, at % width, link[at]);
         i += 1;
     }
     buffer[v] = at as u16;

@@ -1,12 +1,11 @@
 -- A search over accepted data, whatever scratch held: once started it can be hunted, and ends as document 01's search does.
 -- Assumes nothing.
-use mathlib.Core.Path.{_≡_, sym, ap, _∙_}
+use mathlib.Core.Path.{_≡_, sym, _∙_}
 use mathlib.Core.List.{List}
 use Prim.Native.Nat.{ℕ}
 use native.Mathlib.Omega.{arith}
 use Rattle.plot.specs.Turns.{filled, each}
 use Rattle.plot.specs.Lent.{Lent, Scratch}
-use Rattle.plot.specs.Head.{cellsOf}
 use Rattle.plot.specs.Search.{begun}
 use Rattle.plot.specs.Plan.{searched}
 use Rattle.plot.specs.declared.Head.{Head}

@@ -1,19 +1,19 @@
 -- A search starts: scratch that is unseen goes with an empty queue, and the cart's cell comes in. What has begun begins
 -- the same again.
 -- Assumes nothing.
-use mathlib.Core.Path.{_≡_, refl, sym, ap, _∙_}
+use mathlib.Core.Path.{_≡_, sym, ap, _∙_}
 use mathlib.Core.List.{List}
-use Prim.Native.Nat.{ℕ, _%_, _≤_, _<_}
+use Prim.Native.Nat.{ℕ, _≤_, _<_}
 use native.Mathlib.Decide.{decLt}
 use native.Mathlib.Omega.{arith}
 use lib.ListN.{length, getD, set, length-set}
 use lib.Seq.{getD-set-same, getD-set-other, set-getD, ext-getD}
 use Rattle.plot.specs.Turns.{filled, each}
 use Rattle.plot.specs.Lent.{Scratch, scratchWith}
-use Rattle.plot.specs.Search.{unseenCost, reached, begun}
+use Rattle.plot.specs.Search.{unseenCost, begun}
 use Rattle.plot.proofs.Turns.{length-filled, filled-at, filled-above}
 use Rattle.queue.specs.Queue.{keyOf, none, Absent, Lowered}
-use Rattle.expand.specs.Waiting.{keyFor, Held, Did}
+use Rattle.expand.specs.Waiting.{Held, Did}
 use Rattle.expand.proofs.Looking.{key-none, comes-in, held-reached}
 use Rattle.search.specs.Start.{Startable}
 

@@ -5,7 +5,6 @@ use expand::expand;
 use fills::clear;
 use plot::Head;
 use queue::cell_of;
-ghost use mathlib.Core.Path.{_≡_};
 ghost use Rattle.plot.specs.Lent.{lentWith, scratchWith};
 ghost use Rattle.search.specs.Hunt.{Huntable, Searchable, Hunted};
 
@@ -16,7 +15,7 @@ pub struct End {
 }
 
 // The search of a plan, from a scratch that is begun. The cells that it expands are listed.
-pub fn hunt(
+fn hunt(
     head: Head,
     n: usize,
     ground: &[u8],

@@ -1,11 +1,6 @@
 // The stop test with its memory: a cell once walked without reaching the goal never leads there during this search, since
 // links and learned values stay. So all stop tests of one search together walk each cell once.
 use steps::beside;
-ghost use mathlib.Core.Path.{_≡_};
-ghost use Prim.Native.Nat.{_<_, _≤_};
-ghost use lib.ListN.{length, getD};
-ghost use Rattle.plot.specs.Plot.{cells};
-ghost use Rattle.plot.specs.Route.{leads};
 ghost use Rattle.search.specs.Gone.{Gone, Tested, Testable};
 
 // Whether links lead from c to the goal with the learned value falling by exactly 1 at each step. Cells walked are marked

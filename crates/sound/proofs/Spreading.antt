@@ -5,7 +5,7 @@ use mathlib.Core.List.{List}
 use Prim.Native.Nat.{ℕ, _-_, _≤_, _<_}
 use native.Mathlib.Omega.{arith}
 use lib.ListN.{length, getD, replicate, length-replicate}
-use Rattle.plot.specs.Plot.{maxCells, cells}
+use Rattle.plot.specs.Plot.{maxCells}
 use Rattle.plot.specs.Head.{cellsOf}
 use Rattle.plot.specs.declared.Head.{Head}
 use Rattle.sound.specs.Given.{Given}

@@ -1,5 +1,5 @@
-// Whether the data are sound, by flat passes over all cells that LLVM vectorises: no exit and no branch in a loop. A pass
-// looks at neighbouring places of the buffers; where a row ends between them, a mark takes the pair out.
+// Whether the data are sound, by flat passes over all cells that LLVM vectorises: no loop has an exit. A pass looks at
+// neighbouring places of the buffers, and a mark tells where a row ends between them.
 use plot::Head;
 ghost use mathlib.Core.Path.{_≡_};
 ghost use Prim.Native.Nat.{_+_, _-_, _*_, _≤_, _<_};

@@ -10,13 +10,12 @@ use borrow.Author.Tests.{eq-eqb, ne-eqb, lt-ltb, le-ltb}
 use lib.ListN.{getD}
 use Rattle.plot.specs.Plot.{cells}
 use Rattle.plot.specs.Route.{next, leads}
+use Rattle.plot.proofs.Routing.{leads-goal}
 
 -- c's link leads to x; v is c's learned value
 module _ (w h goal : ℕ) (learned link : List ℕ) where
   pub leads-here : (v c : ℕ) → c ≡ goal → leads w h goal learned link v c ≡ true
-  unfolding leads
-  leads-here zero c e = eq-eqb c goal e
-  leads-here (suc v) c e = rw (eq-eqb c goal e)
+  leads-here v c e = rw e (leads-goal w h goal learned link v)
 
   pub leads-spent : (v c : ℕ) → v ≡ 0 → c ≢ goal → leads w h goal learned link v c ≡ false
   unfolding leads

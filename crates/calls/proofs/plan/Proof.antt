@@ -1,5 +1,5 @@
 -- `calls::plan` meets its contract: refused, or what its core does. Assumes nothing.
-use Rattle.calls.proofs.Refusing.{plan-refused, plan-passed}
+use Rattle.calls.proofs.Refusing.{plan-refused, plan-tested}
 use borrow.Author.Needs.{needs}
 use Rattle.calls.proofs.plan.Statement.{statement}
 use Rattle.calls.proofs.plan.Tie as tie
@@ -32,7 +32,7 @@ enum-told : tie.Need-enum-told
 enum-told c = search needs
 
 replan-requires : tie.Need-replan-requires
-replan-requires c κs = plan-passed ((c .before .before .before .before .before .before .before .plan-check) .ensures) ((c .before .before .before .before .before .enum-told) .given .1)
+replan-requires c κs = plan-tested ((c .before .before .before .before .before .before .before .plan-check) .ensures) ((c .before .before .before .before .before .enum-told) .given .1)
 
 same-length-6 : tie.Need-same-length-6
 same-length-6 c = search needs

@@ -1,35 +1,42 @@
 -- `route::follow` meets its contract: before each turn the buffer holds the cells that the walk has left (`Writing`). Assumes nothing.
-use Prim.Native.Nat.{_-_}
-use lib.ListN.{length-set}
+use Rattle.route.proofs.Writing.{Writing, onward-here, write-begin, write-turn, write-end}
+use Rattle.plot.proofs.Accepting.{side-wide, cells-few, row-within}
 use native.Mathlib.Omega.{arith}
-use Rattle.plot.proofs.Accepting.{cells-few, row-within}
-use Rattle.route.proofs.Writing.{Writing, onward-here, next-inside, write-begin, write-turn, write-end}
+use lib.ListN.{length-set}
+use mathlib.Core.Path.{refl}
+use Prim.Native.Nat.{_-_}
 use Rattle.route.proofs.follow.Statement.{statement}
 use Rattle.route.proofs.follow.Tie as tie
 
 abbrev Inv-loop : tie.InvT-loop
-Inv-loop width height link buffer₀ v c at₀ i₀ buffer at i = Writing width height link v c buffer₀ i at buffer
+Inv-loop width height link buffer₀ v c n at₀ i₀ buffer at i = Writing width height link v c buffer₀ i at buffer
 
 abbrev μ-loop : tie.MeasureT-loop
-μ-loop width height link buffer₀ v c at₀ i₀ buffer at i = v - i
+μ-loop width height link buffer₀ v c n at₀ i₀ buffer at i = v - i
+
+mul-n : tie.Need-mul-n Inv-loop μ-loop
+mul-n c = omega (arith, cells-few _ _ ((c .before .before .pre) .sides))
 
 loop-holds : tie.Need-loop-holds Inv-loop μ-loop
-loop-holds c = write-begin _ (c .before .before .pre .onward)
+loop-holds c = write-begin _ ((c .before .before .pre) .onward)
 
 cast-buffer : tie.Need-cast-buffer Inv-loop μ-loop
-cast-buffer c = omega (arith, onward-here (c .before .loop .inv .onward), cells-few _ _ (c .before .before .before .before .pre .sides))
+cast-buffer c = omega (arith, onward-here ((c .before .loop) .inv .onward), cells-few _ _ ((c .before .before .before .before .pre) .sides))
 
 mul-buffer : tie.Need-mul-buffer Inv-loop μ-loop
-mul-buffer c = omega (arith, cells-few _ _ (c .before .before .before .before .pre .sides))
+mul-buffer c = omega (arith, cells-few _ _ ((c .before .before .before .before .pre) .sides))
 
 slice-write-buffer : tie.Need-slice-write-buffer Inv-loop μ-loop
 slice-write-buffer c = omega (arith, (c .before .loop) .inv .long, (c .before .before .before .before .pre) .room)
 
-shared-slice-read-led-to : tie.Need-shared-slice-read-led-to Inv-loop μ-loop
-shared-slice-read-led-to c = omega (arith, onward-here (c .before .before .loop .inv .onward), (c .before .before .before .before .before .pre) .links)
+rem-beside : tie.Need-rem-beside Inv-loop μ-loop
+rem-beside c = side-wide _ _ ((c .before .before .before .before .pre) .sides)
 
-led-to-requires : tie.Need-led-to-requires Inv-loop μ-loop
-led-to-requires c κs = (next-inside (c .before .before .loop .inv .onward) (omega arith), omega (arith, onward-here (c .before .before .loop .inv .onward), cells-few _ _ (c .before .before .before .before .before .pre .sides)), omega (arith, row-within _ _ (c .before .before .before .before .before .pre .sides), cells-few _ _ (c .before .before .before .before .before .pre .sides)))
+shared-slice-read-beside : tie.Need-shared-slice-read-beside Inv-loop μ-loop
+shared-slice-read-beside c = omega (arith, onward-here ((c .before .before .loop) .inv .onward), (c .before .before .before .before .before .pre) .links)
+
+beside-requires : tie.Need-beside-requires Inv-loop μ-loop
+beside-requires c κs = (refl, onward-here ((c .before .before .loop) .inv .onward), omega (arith, cells-few _ _ ((c .before .before .before .before .before .pre) .sides)), row-within _ _ ((c .before .before .before .before .before .pre) .sides), refl)
 
 add-i : tie.Need-add-i Inv-loop μ-loop
 add-i c = omega arith
@@ -38,22 +45,22 @@ loop-less : tie.Need-loop-less Inv-loop μ-loop
 loop-less c = omega arith
 
 loop-again : tie.Need-loop-again Inv-loop μ-loop
-loop-again c = write-turn _ (c .before .before .before .loop .inv) (c .before .before .loop-test .taken) (c .led-to .ensures)
+loop-again c = write-turn _ ((c .before .before .before .loop) .inv) ((c .before .before .loop-test) .taken) ((c .beside) .ensures)
 
 cast-buffer-2 : tie.Need-cast-buffer-2 Inv-loop μ-loop
-cast-buffer-2 c = omega (arith, onward-here (c .before .loop .inv .onward), cells-few _ _ (c .before .before .before .before .pre .sides))
+cast-buffer-2 c = omega (arith, onward-here ((c .before .loop) .inv .onward), cells-few _ _ ((c .before .before .before .before .pre) .sides))
 
 mul-buffer-2 : tie.Need-mul-buffer-2 Inv-loop μ-loop
-mul-buffer-2 c = omega (arith, cells-few _ _ (c .before .before .before .before .pre .sides))
+mul-buffer-2 c = omega (arith, cells-few _ _ ((c .before .before .before .before .pre) .sides))
 
 slice-write-buffer-2 : tie.Need-slice-write-buffer-2 Inv-loop μ-loop
 slice-write-buffer-2 c = omega (arith, (c .before .loop) .inv .long, (c .before .loop) .inv .low, (c .before .before .before .before .pre) .room)
 
 same-length : tie.Need-same-length Inv-loop μ-loop
-same-length c = simp length-set (c .before .loop .inv .long)
+same-length c = simp length-set ((c .before .loop) .inv .long)
 
 returns : tie.Need-returns Inv-loop μ-loop
-returns c = write-end (c .before .loop .inv) (c .loop-test .left) (c .before .before .before .before .pre .room)
+returns c = write-end ((c .before .loop) .inv) ((c .loop-test) .left) ((c .before .before .before .before .pre) .room)
 
 pub follow-spec : {M : Type 1} → statement M
 follow-spec =
@@ -61,12 +68,14 @@ follow-spec =
     (tie.spec
     Inv-loop
     μ-loop
+    mul-n
     loop-holds
     cast-buffer
     mul-buffer
     slice-write-buffer
-    shared-slice-read-led-to
-    led-to-requires
+    rem-beside
+    shared-slice-read-beside
+    beside-requires
     add-i
     loop-less
     loop-again
