@@ -1,5 +1,5 @@
-// One call by its letter: l layout, r report, p plan, m move, q list's question, t list, n list by its count. Answers are numbers, so that they can be
-// compared: what document 01 gives a C controller, but with a number of its own for "arrived".
+// One call by its letter: l layout, r report, p plan, m move, q list's question, t list, n list by its count. Answers are
+// numbers, so that they can be compared: what document 01 gives a C controller, but with one of its own for "arrived".
 use crate::show::number;
 use crate::show::text;
 use crate::show::words;

@@ -90,26 +90,26 @@ fn line(
 
 // Over buffers of 66 entries.
 fn row(given: Head, script: &[u8], answers: &[usize], sums: Sums) {
-    let mut ground: [u8; 66] = [99; 66];
-    let mut learned: [u16; 66] = [999; 66];
-    let mut link: [u8; 66] = [99; 66];
-    let mut mark: [u8; 66] = [99; 66];
-    let mut cost: [u16; 66] = [999; 66];
-    let mut trail: [u8; 66] = [99; 66];
-    let mut buffer: [u16; 66] = [999; 66];
+    let mut g: [u8; 66] = [99; 66];
+    let mut l: [u16; 66] = [999; 66];
+    let mut k: [u8; 66] = [99; 66];
+    let mut m: [u8; 66] = [99; 66];
+    let mut d: [u16; 66] = [999; 66];
+    let mut t: [u8; 66] = [99; 66];
+    let mut b: [u16; 66] = [999; 66];
     line(
         given,
         0,
         script,
         answers,
         sums,
-        &mut ground,
-        &mut learned,
-        &mut link,
-        &mut mark,
-        &mut cost,
-        &mut trail,
-        &mut buffer,
+        &mut g,
+        &mut l,
+        &mut k,
+        &mut m,
+        &mut d,
+        &mut t,
+        &mut b,
     );
 }
 

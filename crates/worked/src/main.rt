@@ -4,15 +4,17 @@ mod accepted;
 mod calling;
 mod data;
 mod edges;
-mod example;
 mod examples;
 mod fronts;
-mod kept;
+mod held;
 mod large;
+mod lending;
 mod order;
+mod refusing;
 mod same;
 mod session;
 mod show;
+mod zeros;
 
 fn worked() {
     examples::p1();
@@ -50,10 +52,12 @@ fn main() {
     worked();
     inside();
     beyond();
-    data::ground();
-    data::learned();
+    data::ground_and_learned();
+    data::apart();
     data::links();
     data::off_the_plot();
+    data::no_route();
     order::of_layout();
     order::of_the_rest();
+    order::of_the_last();
 }

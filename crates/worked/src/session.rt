@@ -1,7 +1,6 @@
 // A session: calls one after the other over the same lent buffers, each answer compared with the stated one.
 use crate::calling::Seen;
 use crate::calling::call;
-use crate::same;
 use crate::show::text;
 use plot::Head;
 
@@ -57,11 +56,6 @@ pub fn run(
 // Whether two heads are the same.
 pub fn heads_same(a: Head, b: Head) -> bool {
     (a.width == b.width) & (a.height == b.height) & (a.goal == b.goal) & (a.cell == b.cell)
-}
-
-// Whether a buffer of bytes, one of 16-bit entries and another of bytes hold what is stated of them.
-pub fn three_same(a: &[u8], b: &[u16], c: &[u8], x: &[u8], y: &[u16], z: &[u8]) -> bool {
-    check::same(a, x) & same::words(b, y) & check::same(c, z)
 }
 
 // The end of a line.

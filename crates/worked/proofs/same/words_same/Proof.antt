@@ -1,7 +1,5 @@
--- `worked::same::words` meets its contract.
--- The invariant of its loop: the two slices agree at every index below i, which is at most their length. The measure is what is left of that length.
--- The test before the loop shows that the two have the same length, and every obligation after it may use that.
--- Assumes nothing.
+-- `worked::same::words_same` meets its contract: before each turn the two slices agree at every index below i. The first test
+-- shows that they are as long as each other. The proof is that of the kit's `check::same`. Assumes nothing.
 use mathlib.Core.Path.{_≡_, refl, sym, ap, subst}
 use mathlib.Core.Bool.{true, false}
 use mathlib.Core.List.{List}
@@ -14,8 +12,8 @@ use lib.ListN.{length, getD}
 use lib.Seq.{ext-getD}
 use denote.Ref.{now}
 use borrow.Author.Count.{falls, below-none, below-more}
-use Rattle.worked.proofs.same.words.Statement.{statement}
-use Rattle.worked.proofs.same.words.Tie as tie
+use Rattle.worked.proofs.same.words_same.Statement.{statement}
+use Rattle.worked.proofs.same.words_same.Tie as tie
 
 -- a and b are the lists of entries that the two slices refer to
 abbrev Alike : List ℕ → List ℕ → ℕ → Type 0
@@ -104,5 +102,5 @@ returns-3 c =
     let at-start = at-if1 .before in
     ((λ e. ext-getD 0 (A at-start) (B at-start) (lengths at-if1) (subst (λ (n : ℕ). (k : ℕ) → k < n → Alike (A at-start) (B at-start) k) (le-antisymm (at-loop .loop .inv .1) (c .loop-test .left)) (at-loop .loop .inv .0))), (λ e. refl))
 
-pub words-spec : {M : Type 1} → statement M
-words-spec = tie.close (tie.spec Inv-loop μ-loop returns loop-holds mul-if2 shared-slice-read-if2 mul-if2-2 shared-slice-read-if2-2 returns-2 add-i loop-less loop-again returns-3)
+pub words-same-spec : {M : Type 1} → statement M
+words-same-spec = tie.close (tie.spec Inv-loop μ-loop returns loop-holds mul-if2 shared-slice-read-if2 mul-if2-2 shared-slice-read-if2-2 returns-2 add-i loop-less loop-again returns-3)
