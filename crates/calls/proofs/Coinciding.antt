@@ -13,7 +13,7 @@ use Rattle.plot.specs.declared.Head.{Head}
 use Rattle.plot.specs.declared.Changed.{Changed}
 use Rattle.plot.specs.declared.Planned.{Planned}
 use Rattle.plot.specs.declared.Moved.{Moved}
-use Rattle.calls.specs.Counted.{Counted}
+use Rattle.listing.specs.Counted.{Counted}
 
 -- two that equal a third
 pub coincide : {A : Type 0} {x y z : A} → x ≡ z → y ≡ z → x ≡ y

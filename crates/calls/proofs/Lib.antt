@@ -1,3 +1,2 @@
 pub mod Refusing
-pub mod Counting
 pub mod Coinciding

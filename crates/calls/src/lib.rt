@@ -10,18 +10,16 @@ use plot::Outcome;
 use plot::Planned;
 use plot::Step;
 use plot::Verdict;
-use sound::check::accepted;
-use sound::check::layout_check;
-use sound::check::plan_check;
-use sound::check::report_check;
+use refusals::accepted;
+use refusals::layout_check;
+use refusals::plan_check;
+use refusals::report_check;
 ghost use mathlib.Core.Path.{_≡_};
 ghost use Rattle.plot.specs.Lent.{lentWith, scratchWith, after};
 ghost use Rattle.plot.specs.Layout.{laidOut};
 ghost use Rattle.plot.specs.Report.{reported};
 ghost use Rattle.plot.specs.Plan.{afterPlan, planned};
 ghost use Rattle.plot.specs.Move.{moved};
-
-pub mod listing;
 
 // Lay out: ground all free, learned the Manhattan distance to the goal, no links.
 pub fn layout(

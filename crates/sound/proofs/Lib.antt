@@ -2,5 +2,4 @@ pub mod Rows
 pub mod Scans
 pub mod Flags
 pub mod Flatness
-pub mod Verdicts
 pub mod Spreading

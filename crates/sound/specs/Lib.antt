@@ -1,4 +1,3 @@
--- What the tests are given, the flat tests that stand for document 01's, and the part that the verdicts share.
+-- What the soundness test is given, and the flat tests that stand for document 01's.
 pub mod Given
 pub mod Flat
-pub mod Checks

@@ -155,7 +155,7 @@ fn advance(seen: Seen, ground: &[u8], learned: &[u16], link: &mut [u8]) -> Seen 
 fn question(seen: Seen, ground: &[u8], learned: &[u16], link: &[u8], list: &[u16]) -> Seen {
     text(b", question ");
     let head = seen.head;
-    let answer = calls::listing::list_question(head, ground, learned, link, list);
+    let answer = listing::list_question(head, ground, learned, link, list);
     number(answer);
     Seen {
         head,
@@ -168,7 +168,7 @@ fn question(seen: Seen, ground: &[u8], learned: &[u16], link: &[u8], list: &[u16
 // List: its front is printed, and its length is the answer.
 fn list(seen: Seen, ground: &[u8], learned: &[u16], link: &[u8], buffer: &mut [u16]) -> Seen {
     let head = seen.head;
-    let front = calls::listing::list(head, ground, learned, link, buffer);
+    let front = listing::list(head, ground, learned, link, buffer);
     let length = front.len();
     text(b", list of ");
     number(length);
@@ -184,7 +184,7 @@ fn list(seen: Seen, ground: &[u8], learned: &[u16], link: &[u8], buffer: &mut [u
 fn count(seen: Seen, ground: &[u8], learned: &[u16], link: &[u8], buffer: &mut [u16]) -> Seen {
     let head = seen.head;
     text(b", count ");
-    let answer = calls::listing::list_count(head, ground, learned, link, buffer);
+    let answer = listing::list_count(head, ground, learned, link, buffer);
     number(answer);
     Seen {
         head,

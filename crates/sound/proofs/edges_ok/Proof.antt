@@ -1,0 +1,58 @@
+-- `sound::edges_ok` meets its contract: a scan, whose flag is the test over the columns passed. Assumes nothing.
+use mathlib.Core.Path.{_≡_}
+use Prim.Native.Nat.{_≤_, _-_}
+use native.Mathlib.Omega.{arith}
+use Rattle.plot.specs.Turns.{every}
+use Rattle.sound.specs.Flat.{edgeAt}
+use Rattle.sound.proofs.Scans.{every-none, every-more, every-done}
+use Rattle.sound.proofs.edges_ok.Statement.{statement}
+use Rattle.sound.proofs.edges_ok.Tie as tie
+
+abbrev Inv-loop : tie.InvT-loop
+Inv-loop link low w ok₀ i₀ ok i = (i ≤ w) × (ok ≡ every i (edgeAt low link))
+
+abbrev μ-loop : tie.MeasureT-loop
+μ-loop link low w ok₀ i₀ ok i = w - i
+
+loop-holds : tie.Need-loop-holds Inv-loop μ-loop
+loop-holds c = (omega arith, every-none _)
+
+shared-slice-read-edge-ok : tie.Need-shared-slice-read-edge-ok Inv-loop μ-loop
+shared-slice-read-edge-ok c = omega arith
+
+add-edge-ok : tie.Need-add-edge-ok Inv-loop μ-loop
+add-edge-ok c = omega arith
+
+shared-slice-read-edge-ok-2 : tie.Need-shared-slice-read-edge-ok-2 Inv-loop μ-loop
+shared-slice-read-edge-ok-2 c = omega arith
+
+edge-ok-requires : tie.Need-edge-ok-requires Inv-loop μ-loop
+edge-ok-requires c κs = tt
+
+add-i : tie.Need-add-i Inv-loop μ-loop
+add-i c = omega arith
+
+loop-less : tie.Need-loop-less Inv-loop μ-loop
+loop-less c = omega arith
+
+loop-again : tie.Need-loop-again Inv-loop μ-loop
+loop-again c = (omega arith, every-more _ _ _ _ (c .before .before .before .before .loop .inv .1) (c .edge-ok .ensures))
+
+returns : tie.Need-returns Inv-loop μ-loop
+returns c = every-done _ _ _ _ (c .before .loop .inv .1) (c .before .loop .inv .0) (c .loop-test .left)
+
+pub edges-ok-spec : {M : Type 1} → statement M
+edges-ok-spec =
+    tie.close
+    (tie.spec
+    Inv-loop
+    μ-loop
+    loop-holds
+    shared-slice-read-edge-ok
+    add-edge-ok
+    shared-slice-read-edge-ok-2
+    edge-ok-requires
+    add-i
+    loop-less
+    loop-again
+    returns)
