@@ -1,4 +1,3 @@
-use mathlib.Core.Path.{refl}
 -- `calls::plan` meets its contract: refused, or what its core does. Assumes nothing.
 use Rattle.calls.proofs.Refusing.{plan-refused, plan-tested}
 use borrow.Author.Needs.{needs}
@@ -6,25 +5,25 @@ use Rattle.calls.proofs.plan.Statement.{statement}
 use Rattle.calls.proofs.plan.Tie as tie
 
 plan-check-requires : tie.Need-plan-check-requires
-plan-check-requires c κs = tt
+plan-check-requires c κs = search needs
 
 enum-known-verdict : tie.Need-enum-known-verdict
 enum-known-verdict c = search needs
 
 same-length : tie.Need-same-length
-same-length c = refl
+same-length c = search needs
 
 same-length-2 : tie.Need-same-length-2
-same-length-2 c = refl
+same-length-2 c = search needs
 
 same-length-3 : tie.Need-same-length-3
-same-length-3 c = refl
+same-length-3 c = search needs
 
 same-length-4 : tie.Need-same-length-4
-same-length-4 c = refl
+same-length-4 c = search needs
 
 same-length-5 : tie.Need-same-length-5
-same-length-5 c = refl
+same-length-5 c = search needs
 
 returns : tie.Need-returns
 returns c = plan-refused ((c .before .verdict) .given .1) _ _ _ ((c .before .before .before .plan-check) .ensures)
@@ -36,19 +35,19 @@ replan-requires : tie.Need-replan-requires
 replan-requires c κs = plan-tested ((c .before .before .before .before .before .before .before .plan-check) .ensures) ((c .before .before .before .before .before .enum-told) .given .1)
 
 same-length-6 : tie.Need-same-length-6
-same-length-6 c = (c .before .before .before .before .before .before .before .before .before .before .replan) .kept .1 .1 .0
+same-length-6 c = search needs
 
 same-length-7 : tie.Need-same-length-7
-same-length-7 c = (c .before .before .before .before .before .before .before .before .before .before .replan) .kept .1 .1 .1 .0
+same-length-7 c = search needs
 
 same-length-8 : tie.Need-same-length-8
-same-length-8 c = (c .before .before .before .before .before .before .before .before .before .before .replan) .kept .1 .1 .1 .1 .0
+same-length-8 c = search needs
 
 same-length-9 : tie.Need-same-length-9
-same-length-9 c = (c .before .before .before .before .before .before .before .before .before .before .replan) .kept .1 .1 .1 .1 .1 .0
+same-length-9 c = search needs
 
 same-length-10 : tie.Need-same-length-10
-same-length-10 c = (c .before .before .before .before .before .before .before .before .before .before .replan) .kept .1 .1 .1 .1 .1 .1 .0
+same-length-10 c = search needs
 
 returns-2 : tie.Need-returns-2
 returns-2 c = (c .before .before .before .before .before .before .before .before .before .before .replan) .ensures

@@ -9,37 +9,37 @@ use Rattle.search.proofs.start.start.Statement.{statement}
 use Rattle.search.proofs.start.start.Tie as tie
 
 clear-requires : tie.Need-clear-requires
-clear-requires c κs = (c .before .before .before .before .before .before .before .pre) .marks
+clear-requires c κs = search needs
 
 unsee-requires : tie.Need-unsee-requires
-unsee-requires c κs = (c .before .before .before .before .before .before .before .before .before .before .before .pre) .costs
+unsee-requires c κs = search needs
 
 clear-requires-2 : tie.Need-clear-requires-2
-clear-requires-2 c κs = (c .before .before .before .before .before .before .before .before .before .before .before .before .before .before .before .pre) .trails
+clear-requires-2 c κs = search needs
 
 slice-write-mark : tie.Need-slice-write-mark
-slice-write-mark c = omega (arith, (c .before .before .before .before .before .before .before .before .before .before .before .before .before .before .before .before .before .before .pre) .inside, (c .before .before .before .before .before .before .before .before .before .before .before .before .before .before .before .before .before .before .pre) .marks, (c .before .before .before .before .before .before .before .before .before .before .clear) .kept .0)
+slice-write-mark c = search needs
 
 mul-cost : tie.Need-mul-cost
-mul-cost c = omega (arith, (c .before .before .before .before .before .before .before .before .before .before .before .before .before .before .before .before .before .before .pre) .inside, (c .before .before .before .before .before .before .before .before .before .before .before .before .before .before .before .before .before .before .pre) .small)
+mul-cost c = search needs
 
 slice-write-cost : tie.Need-slice-write-cost
-slice-write-cost c = omega (arith, (c .before .before .before .before .before .before .before .before .before .before .before .before .before .before .before .before .before .before .pre) .inside, (c .before .before .before .before .before .before .before .before .before .before .before .before .before .before .before .before .before .before .pre) .costs, (c .before .before .before .before .before .before .unsee) .kept .0)
+slice-write-cost c = search needs
 
 slice-write-heap : tie.Need-slice-write-heap
-slice-write-heap c = omega (arith, (c .before .before .before .before .before .before .before .before .before .before .before .before .before .before .before .before .before .before .pre) .room)
+slice-write-heap c = search needs
 
 mul-key : tie.Need-mul-key
-mul-key c = omega (arith, (c .before .before .before .before .before .before .before .before .before .before .before .before .before .before .before .before .before .before .pre) .inside, (c .before .before .before .before .before .before .before .before .before .before .before .before .before .before .before .before .before .before .pre) .small)
+mul-key c = search needs
 
 shared-slice-read-key : tie.Need-shared-slice-read-key
-shared-slice-read-key c = omega (arith, (c .before .before .before .before .before .before .before .before .before .before .before .before .before .before .before .before .before .before .before .pre) .inside, (c .before .before .before .before .before .before .before .before .before .before .before .before .before .before .before .before .before .before .before .pre) .learneds)
+shared-slice-read-key c = search needs
 
 cast-key : tie.Need-cast-key
-cast-key c = omega (arith, (c .before .before .before .before .before .before .before .before .before .before .before .before .before .before .before .before .before .before .before .pre) .inside, (c .before .before .before .before .before .before .before .before .before .before .before .before .before .before .before .before .before .before .before .pre) .small)
+cast-key c = search needs
 
 key-requires : tie.Need-key-requires
-key-requires c κs = tt
+key-requires c κs = search needs
 
 push-requires : tie.Need-push-requires
 push-requires c κs = cart-absent ((c .before .before .before .before .before .before .before .before .before .before .before .before .before .before .before .before .before .before .before .before .before .before .pre)) _ _ _ ((c .before .before .before .before .before .before .before .before .before .before .before .before .before .before .clear) .ensures) ((c .before .before .before .before .before .before .before .before .before .before .unsee) .ensures) ((c .before .before .before .before .before .before .clear2) .ensures) _ ((c .before .before .key) .ensures) (omega (arith, (c .before .before .key) .ok))
