@@ -1,5 +1,5 @@
-// Logs drives over six kinds of 64x64 ground with the peer, then plans each logged state again with the proved core, the peer
-// and the proved call: cycles, the least of some repetitions, summed over the states. Answers and lists are compared.
+// Logs drives over six kinds of 64x64 ground with the peer, then plans each logged state again with the proved core, the peer,
+// the proved call and the calls over a record: cycles, the least of some repetitions, summed. Answers and lists are compared.
 #include <stdint.h>
 #include <stdio.h>
 #include <stdlib.h>
@@ -10,7 +10,7 @@ typedef uint8_t u8;
 typedef uint16_t u16;
 typedef uint64_t u64;
 
-enum { W = 64, H = 64, N = W * H, MOST = 4000 };
+enum { W = 64, H = 64, N = W * H, MOST = 4000, RECORD = 12827 };
 
 #define LENT const u8 *, size_t, u16 *, size_t, u8 *, size_t
 #define SCRATCH u8 *, size_t, u16 *, size_t, u8 *, size_t
@@ -18,6 +18,11 @@ size_t probe_sound(size_t, size_t, size_t, size_t, const u8 *, size_t, const u16
 size_t probe_plan(size_t, size_t, size_t, size_t, LENT, SCRATCH);
 size_t probe_core(size_t, size_t, size_t, size_t, LENT, SCRATCH, u64 *, size_t, u16 *, size_t, u8 *, size_t, u16 *, size_t);
 size_t probe_own(size_t, size_t, size_t, size_t, LENT, SCRATCH);
+uint32_t salenduro_report(u8 *, size_t, uint32_t);
+uint32_t salenduro_plan(u8 *, size_t);
+uint32_t salenduro_move(u8 *, size_t);
+void c_decode(const u8 *, size_t, u8 *, u16 *, u8 *);
+void c_encode(size_t, size_t, size_t, size_t, const u8 *, const u16 *, const u8 *, u8 *);
 int c_sound(size_t, size_t, size_t, size_t, const u8 *, const u16 *, const u8 *);
 size_t c_plan(size_t, size_t, size_t, size_t, const u8 *, u16 *, u8 *, u8 *, u16 *, u8 *, size_t *);
 
@@ -163,13 +168,41 @@ static void least(u64 *best, u64 since) {
 }
 
 typedef struct {
-    u64 core, own, peer, call, sound, flags;
+    u64 core, own, peer, call, sound, flags, codec, plan, report, move;
     size_t cells;
 } Times;
 
+// The calls over a record, and a codec in C: what the record holds after the plan is compared.
+static void over_a_record(const State *s, Times *b, size_t planned) {
+    static u8 before[RECORD], record[RECORD], ground[N], other[RECORD];
+    size_t free_cell = s->cell;
+    for (size_t c = 0; c < N; c++)
+        if (!s->ground[c] && c != s->cell) free_cell = c;
+    c_encode(W, H, s->goal, s->cell, s->ground, s->learned, s->link, before);
+    u64 t = clock_();
+    c_decode(before, N, ground, learned1, link1);
+    c_encode(W, H, s->goal, s->cell, ground, learned1, link1, record);
+    least(&b->codec, t);
+    t = clock_();
+    uint32_t r = salenduro_report(record, RECORD, (uint32_t)free_cell);
+    least(&b->report, t);
+    memcpy(record, before, RECORD);
+    t = clock_();
+    uint32_t p = salenduro_plan(record, RECORD);
+    least(&b->plan, t);
+    c_encode(W, H, s->goal, s->cell, s->ground, learned2, link2, other);
+    if (r || p != planned || memcmp(record, other, RECORD)) {
+        printf("the calls over a record differ\n");
+        exit(1);
+    }
+    t = clock_();
+    salenduro_move(record, RECORD);
+    least(&b->move, t);
+}
+
 // One state, planned again by each; ends the program where they differ.
 static Times plan_again(const State *s, int times) {
-    Times b = {~0ULL, ~0ULL, ~0ULL, ~0ULL, ~0ULL, ~0ULL, 0};
+    Times b = {~0ULL, ~0ULL, ~0ULL, ~0ULL, ~0ULL, ~0ULL, ~0ULL, ~0ULL, ~0ULL, ~0ULL, 0};
     for (int r = 0; r < times; r++) {
         u64 t;
         memcpy(learned1, s->learned, sizeof learned1);
@@ -207,6 +240,7 @@ static Times plan_again(const State *s, int times) {
             printf("the call or a soundness test differs\n");
             exit(1);
         }
+        over_a_record(s, &b, c);
     }
     return b;
 }
@@ -230,11 +264,14 @@ static void ground_kinds(int times) {
         for (size_t i = 0; i < logged; i++) {
             Times t = plan_again(&log_[i], times);
             sum.core += t.core, sum.own += t.own, sum.peer += t.peer, sum.call += t.call, sum.sound += t.sound, sum.flags += t.flags, sum.cells += t.cells;
+            sum.codec += t.codec, sum.plan += t.plan, sum.report += t.report, sum.move += t.move;
         }
         double n = logged;
         double peer = sum.peer, flags = sum.flags;
         printf("%-13s %5zu %8.1f | %5.2f %9.2f %5.2f %5.2f | %.0f %.0f %.0f %.0f %.0f %.0f\n", names[kind], logged, sum.cells / n, sum.core / peer,
                sum.own / peer, sum.call / peer, sum.sound / flags, sum.core / n, sum.own / n, peer / n, sum.call / n, sum.sound / n, flags / n);
+        printf("  over a record, to the test, the core and a codec in C: plan %.2f, report %.2f, move %.2f\n", sum.plan / (double)(sum.sound + sum.core + sum.codec),
+               sum.report / (double)(sum.sound + sum.codec), sum.move / (double)(sum.sound + sum.codec));
         if (logged == MOST) printf("(the first %d plans of that ground alone)\n", MOST);
     }
 }

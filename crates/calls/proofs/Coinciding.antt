@@ -1,9 +1,9 @@
 -- What a call's promise allows is one: two results that it allows have the same answer, and leave the same lists.
 -- Assumes nothing.
 use Prim.Native.Nat.{ℕ}
-use mathlib.Core.Path.{_≡_, sym, ap, _∙_}
+use mathlib.Core.Path.{_≡_, ap}
 use mathlib.Core.List.{List}
-use Rattle.plot.specs.Lent.{Lent, Scratch, lentWith, scratchWith, After, after}
+use Rattle.plot.specs.Lent.{Lent, Scratch, lentWith, scratchWith, after}
 use Rattle.plot.specs.Layout.{laidOut}
 use Rattle.plot.specs.Report.{reported}
 use Rattle.plot.specs.Plan.{AfterPlan, afterPlan, planned}
@@ -13,25 +13,8 @@ use Rattle.plot.specs.declared.Head.{Head}
 use Rattle.plot.specs.declared.Changed.{Changed}
 use Rattle.plot.specs.declared.Planned.{Planned}
 use Rattle.plot.specs.declared.Moved.{Moved}
+use Rattle.plot.proofs.Coinciding.{coincide, answers, grounds, learneds, links}
 use Rattle.listing.specs.Counted.{Counted}
-
--- two that equal a third
-pub coincide : {A : Type 0} {x y z : A} → x ≡ z → y ≡ z → x ≡ y
-coincide e f = e ∙ sym f
-
--- two answers with what is lent afterwards are equal: part by part
-module _ {A : Type 0} {r r′ : A} {p p′ : Lent} (e : after r p ≡ after r′ p′) where
-  answers : r ≡ r′
-  answers = ap (λ (a : After A). a .answer) e
-
-  grounds : p .ground ≡ p′ .ground
-  grounds = ap (λ (a : After A). a .lists .ground) e
-
-  learneds : p .learned ≡ p′ .learned
-  learneds = ap (λ (a : After A). a .lists .learned) e
-
-  links : p .link ≡ p′ .link
-  links = ap (λ (a : After A). a .lists .link) e
 
 -- layout: one answer, ground, learned and link
 pub layout-coincides : (w h start goal : ℕ) (p : Lent) {r r′ : Changed} {ground learned link ground′ learned′ link′ : List ℕ}

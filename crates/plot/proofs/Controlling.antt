@@ -14,7 +14,7 @@ use Rattle.plot.specs.Store.{loadCheck}
 use Rattle.plot.specs.Report.{reported}
 use Rattle.plot.specs.Plan.{planned}
 use Rattle.plot.specs.Move.{moved}
-use Rattle.plot.specs.Controller.{ownRoom, ownScratch, AfterC, rewritten, onRecord, stateIn, reportedC, plannedC, movedC}
+use Rattle.plot.specs.Controller.{ownRoom, ownScratch, AfterC, afterC, rewritten, onRecord, stateIn, reportedC, plannedC, movedC}
 use Rattle.plot.specs.declared.Head.{Head}
 use Rattle.plot.specs.declared.Reason.{Reason}
 use Rattle.plot.specs.declared.Verdict.{Verdict}
@@ -35,11 +35,11 @@ use Rattle.plot.proofs.Geometry.{adj-inside}
 -- What a call answers and leaves, in its three cases.
 pub data OnRecord (bytes : List ℕ) (verdict : Verdict) (answer : ℕ) (head : Head) (p : Lent) : AfterC → Type 0 where
   unread : {why : Reason} → loadCheck bytes ownRoom ≡ Refused why
-      → OnRecord bytes verdict answer head p (record { answer = refusal why; bytes = bytes })
+      → OnRecord bytes verdict answer head p (afterC (refusal why) bytes)
   undone : {why : Reason} → loadCheck bytes ownRoom ≡ Accepted → verdict ≡ Refused why
-      → OnRecord bytes verdict answer head p (record { answer = answer; bytes = bytes })
+      → OnRecord bytes verdict answer head p (afterC answer bytes)
   done : loadCheck bytes ownRoom ≡ Accepted → verdict ≡ Accepted
-      → OnRecord bytes verdict answer head p (record { answer = answer; bytes = recordOf head p })
+      → OnRecord bytes verdict answer head p (afterC answer (recordOf head p))
 
 module _ (bytes : List ℕ) (verdict : Verdict) (answer : ℕ) (head : Head) (p : Lent) where
   pub on-record : OnRecord bytes verdict answer head p (onRecord bytes verdict answer head p)
@@ -48,8 +48,8 @@ module _ (bytes : List ℕ) (verdict : Verdict) (answer : ℕ) (head : Head) (p 
     where
       go : (v v′ : Verdict) → loadCheck bytes ownRoom ≡ v → verdict ≡ v′
           → OnRecord bytes verdict answer head p (elim v [
-            | Accepted ↦ record { answer = answer; bytes = rewritten v′ bytes (recordOf head p) }
-            | Refused why ↦ record { answer = refusal why; bytes = bytes }
+            | Accepted ↦ afterC answer (rewritten v′ bytes (recordOf head p))
+            | Refused why ↦ afterC (refusal why) bytes
           ])
       go Accepted Accepted e f = done e f
       go Accepted (Refused why) e f = undone e f

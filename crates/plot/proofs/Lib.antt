@@ -30,5 +30,6 @@ pub mod Written
 pub mod Recording
 pub mod Storing
 pub mod Controlling
+pub mod Coinciding
 pub mod Beyond
 pub mod PlanBeyond

@@ -2,7 +2,7 @@
 -- Assumes nothing.
 use mathlib.Core.Path.{_≡_, refl, sym, _∙_}
 use mathlib.Core.Logic.{_≢_}
-use mathlib.Core.Bool.{true, false}
+use mathlib.Core.Bool.{Bool, true, false, _||_}
 use mathlib.Core.List.{List, _∷_}
 use Prim.Native.Nat.{ℕ, _≤_, _<_}
 use native.Mathlib.Decide.{ℕ-discrete}
@@ -15,11 +15,11 @@ use Rattle.plot.specs.Plot.{cells, free, allowed}
 use Rattle.plot.specs.Lent.{Lent, lentWith, buffersOf, After}
 use Rattle.plot.specs.Head.{cellsOf, cellsNamed}
 use Rattle.plot.specs.Route.{next}
-use Rattle.plot.specs.Refusals.{refuseIf, check, anyOutside, changed}
+use Rattle.plot.specs.Refusals.{refuseIf, andThen, fits, check, anyOutside, changed}
 use Rattle.plot.specs.Report.{reportCheck, linkOnceBlocked, linksOnceBlocked, blocked, reported}
 use Rattle.plot.specs.declared.Head.{Head}
 use Rattle.plot.specs.declared.Reason.{Reason}
-use Rattle.plot.specs.declared.Reason.the-variants.{OwnCell}
+use Rattle.plot.specs.declared.Reason.the-variants.{Outside, OwnCell}
 use Rattle.plot.specs.declared.Verdict.{Verdict}
 use Rattle.plot.specs.declared.Verdict.the-variants.{Accepted, Refused}
 use Rattle.plot.specs.declared.Changed.{Changed}
@@ -63,6 +63,17 @@ module _ (head : Head) (p : Lent) (c : ℕ) where
     where
       outside : anyOutside (cellsOf head) (c ∷ cellsNamed head) ≡ false
       outside = rw (lt-leb (cellsOf head) c i) (on-both (head .width) (head .height) (head .goal) (head .cell) (a .placed .goal-on) (a .placed .cart-on))
+
+-- what report asks of accepted data: 3 for the reported cell, then 5
+pub report-rest : (head : Head) (p : Lent) (c : ℕ) → Held head p → reportCheck head p c ≡ refuseIf (leb (cellsOf head) c) Outside (refuseIf (eqb c (head .cell)) OwnCell Accepted)
+unfolding reportCheck check fits
+report-rest head p c a =
+    rw (a .placed .sides, lent-room (cellsOf head) p (a .room), on-both (head .width) (head .height) (head .goal) (head .cell) (a .placed .goal-on) (a .placed .cart-on), fit-sound head p (a .fit))
+    (go (leb (cellsOf head) c))
+  where
+    go : (b : Bool) → andThen (andThen (refuseIf (b || false) Outside Accepted) Accepted) (refuseIf (eqb c (head .cell)) OwnCell Accepted) ≡ refuseIf b Outside (refuseIf (eqb c (head .cell)) OwnCell Accepted)
+    go true = refl
+    go false = refl
 
 -- what report answers and leaves, in its two cases
 pub data Reporting (head : Head) (p : Lent) (c : ℕ) : After Changed → Type 0 where

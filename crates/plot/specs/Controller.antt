@@ -27,6 +27,9 @@ pub record AfterC : Type 0 where
   pub answer : ℕ
   pub bytes : List ℕ
 
+abbrev pub afterC : ℕ → List ℕ → AfterC
+afterC answer bytes = record { answer = answer; bytes = bytes }
+
 -- the record is "rewritten there", and a refusal leaves the bytes
 abbrev pub rewritten : Verdict → (before after : List ℕ) → List ℕ
 rewritten Accepted before after = after
@@ -36,8 +39,8 @@ rewritten (Refused why) before after = before
 unfoldable pub onRecord : (bytes : List ℕ) → Verdict → (answer : ℕ) → Head → Lent → AfterC
 onRecord bytes verdict answer head p =
     elim (loadCheck bytes ownRoom) [
-      | Accepted ↦ record { answer = answer; bytes = rewritten verdict bytes (recordOf head p) }
-      | Refused why ↦ record { answer = refusal why; bytes = bytes }
+      | Accepted ↦ afterC answer (rewritten verdict bytes (recordOf head p))
+      | Refused why ↦ afterC (refusal why) bytes
     ]
 
 -- the state that the bytes hold

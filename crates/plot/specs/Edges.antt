@@ -108,6 +108,11 @@ pub load-order :
 unfolding definitions
 load-order = refl
 
+-- "Load checks all before it writes": a record that is not sound, P11, leaves every entry
+pub load-checks-first : loaded (bytesOf 2 1 1 0 0 2 []) (lentOf 2 2 2) .lists ≡ lentOf 2 2 2
+unfolding definitions
+load-checks-first = refl
+
 -- The C calls: "plan gives the length (0 arrived) or 65,535 for no way; move gives the cell the cart is then on; report gives
 -- 0; a refusal n is 70,000 + n", and "a reported cell of N or more in an unsound record gives 4"
 pub c-plan-answers :

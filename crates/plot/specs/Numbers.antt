@@ -35,6 +35,10 @@ stepVerdict Step.Moved = Verdict.Accepted
 stepVerdict Step.Arrived = Verdict.Accepted
 stepVerdict (Step.Refused why) = Verdict.Refused why
 
+abbrev pub lengthVerdict : Length → Verdict
+lengthVerdict (Length.Bytes n) = Verdict.Accepted
+lengthVerdict (Length.Refused why) = Verdict.Refused why
+
 -- .. and as one number for a C host: "a refusal n is 70,000 + n"
 abbrev pub refusal : Reason → ℕ
 refusal why = 70000 + reasonNumber why

@@ -21,6 +21,9 @@ pub record AfterSave : Type 0 where
   pub answer : Saved
   pub buffer : List ℕ
 
+abbrev pub afterSave : Saved → List ℕ → AfterSave
+afterSave answer buffer = record { answer = answer; buffer = buffer }
+
 abbrev pub savedAs : Head → Length → Saved
 savedAs head length = record { head = head; length = length }
 

@@ -14,6 +14,8 @@ ghost use Rattle.plot.specs.Report.{reportCheck};
 ghost use Rattle.plot.specs.Plan.{planCheck};
 ghost use Rattle.refusals.specs.Checks.{fitsWithin, checkWith};
 
+pub mod rest;
+
 // A side is 0 or above the largest. Good sides come first: only they have a product that fits.
 pub fn bad_sides(width: usize, height: usize) -> bool
     ensures { λ r. ⌜ r ≡ badSides width height ⌝ }

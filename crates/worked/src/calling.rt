@@ -1,219 +1,123 @@
-// One call by its letter: l layout, r report, p plan, m move, q list's question, t list, n list by its count. Answers are
-// numbers, so that they can be compared: what document 01 gives a C controller, but with one of its own for "arrived".
+// The calls, each over what is lent of the buffers that it takes. One more is a function here and a letter in main's `obey`.
+use crate::answers;
+use crate::lending;
 use crate::show::number;
-use crate::show::text;
+use crate::show::say;
 use crate::show::words;
-use plot::Changed;
-use plot::Head;
-use plot::Moved;
-use plot::Outcome;
-use plot::Planned;
-use plot::Reason;
-use plot::Step;
-use plot::Verdict;
+use crate::state::State;
 
-pub const ARRIVED: usize = 60000;
-
-pub const NO_WAY: usize = 65535;
-
-// The state between calls: the head, the last answer, the last plan's count of expanded cells, and whether every answer so
-// far was the stated one.
-pub struct Seen {
-    pub head: Head,
-    pub answer: usize,
-    pub expanded: usize,
-    pub right: bool,
-}
-
-// A refusal n is 70,000 + n.
-fn refused(why: Reason) -> usize {
-    let n = why.number();
-    text(b" refused ");
-    number(n);
-    std::num::wrapping_add_usize(70000, n)
-}
-
-fn changed_answer(changed: Changed) -> usize {
-    let verdict = changed.verdict;
-    match verdict {
-        Verdict::Accepted => {
-            text(b" accepted");
-            0
-        }
-        Verdict::Refused(why) => refused(why),
-    }
-}
-
-fn plan_answer(planned: Planned) -> usize {
-    let outcome = planned.outcome;
-    match outcome {
-        Outcome::Route(steps) => {
-            text(b" length ");
-            number(steps);
-            steps
-        }
-        Outcome::NoWay => {
-            text(b" no way");
-            NO_WAY
-        }
-        Outcome::Arrived => {
-            text(b" arrived");
-            ARRIVED
-        }
-        Outcome::Refused(why) => refused(why),
-    }
-}
-
-fn move_answer(moved: Moved) -> usize {
-    let step = moved.step;
-    match step {
-        Step::Moved => {
-            text(b" on ");
-            number(moved.head.cell);
-            moved.head.cell
-        }
-        Step::Arrived => {
-            text(b" arrived");
-            ARRIVED
-        }
-        Step::Refused(why) => refused(why),
-    }
-}
-
-fn lay(seen: Seen, ground: &mut [u8], learned: &mut [u16], link: &mut [u8]) -> Seen {
-    let given = seen.head;
-    text(b", layout");
+// `layout width height start goal`.
+pub fn layout(mut s: State, width: usize, height: usize, start: usize, goal: usize) -> State {
+    let mut ground = s.ground;
+    let mut learned = s.learned;
+    let mut link = s.link;
     let changed = calls::layout(
-        given.width,
-        given.height,
-        given.cell,
-        given.goal,
-        ground,
-        learned,
-        link,
+        width,
+        height,
+        start,
+        goal,
+        lending::bytes(&mut ground, s.room, s.short, 1),
+        lending::words(&mut learned, s.room, s.short, 2),
+        lending::bytes(&mut link, s.room, s.short, 3),
     );
+    let verdict = changed.verdict;
+    answers::verdict(verdict);
     let head = changed.head;
-    Seen {
-        head,
-        answer: changed_answer(changed),
-        expanded: seen.expanded,
-        right: seen.right,
-    }
+    s.head = head;
+    s.ground = ground;
+    s.learned = learned;
+    s.link = link;
+    s
 }
 
-fn report(seen: Seen, c: usize, ground: &mut [u8], learned: &[u16], link: &mut [u8]) -> Seen {
-    text(b", report ");
-    number(c);
-    let given = seen.head;
-    let changed = calls::report(given, ground, learned, link, c);
+// `report cell`.
+pub fn report(mut s: State, c: usize) -> State {
+    let given = s.head;
+    let mut ground = s.ground;
+    let mut learned = s.learned;
+    let mut link = s.link;
+    let changed = calls::report(
+        given,
+        lending::bytes(&mut ground, s.room, s.short, 1),
+        &lending::words(&mut learned, s.room, s.short, 2)[..],
+        lending::bytes(&mut link, s.room, s.short, 3),
+        c,
+    );
+    let verdict = changed.verdict;
+    answers::verdict(verdict);
     let head = changed.head;
-    Seen {
-        head,
-        answer: changed_answer(changed),
-        expanded: seen.expanded,
-        right: seen.right,
-    }
+    s.head = head;
+    s.ground = ground;
+    s.link = link;
+    s
 }
 
-fn plan(
-    seen: Seen,
-    ground: &[u8],
-    learned: &mut [u16],
-    link: &mut [u8],
-    mark: &mut [u8],
-    cost: &mut [u16],
-    trail: &mut [u8],
-) -> Seen {
-    text(b", plan");
-    let given = seen.head;
-    let planned = calls::plan(given, ground, learned, link, mark, cost, trail);
-    let answer = plan_answer(planned);
-    text(b" expanded ");
-    number(planned.expanded);
-    let after = planned.head;
-    Seen {
-        head: after,
-        answer,
-        expanded: planned.expanded,
-        right: seen.right,
-    }
+pub fn plan(mut s: State) -> State {
+    let given = s.head;
+    let mut ground = s.ground;
+    let mut learned = s.learned;
+    let mut link = s.link;
+    let mut mark = s.mark;
+    let mut cost = s.cost;
+    let mut trail = s.trail;
+    let planned = calls::plan(
+        given,
+        &lending::bytes(&mut ground, s.room, s.short, 1)[..],
+        lending::words(&mut learned, s.room, s.short, 2),
+        lending::bytes(&mut link, s.room, s.short, 3),
+        lending::bytes(&mut mark, s.room, s.short, 4),
+        lending::words(&mut cost, s.room, s.short, 5),
+        lending::bytes(&mut trail, s.room, s.short, 6),
+    );
+    let outcome = planned.outcome;
+    answers::outcome(outcome);
+    say(b" expanded", planned.expanded);
+    let head = planned.head;
+    s.head = head;
+    s.learned = learned;
+    s.link = link;
+    s.mark = mark;
+    s.cost = cost;
+    s.trail = trail;
+    s
 }
 
-fn advance(seen: Seen, ground: &[u8], learned: &[u16], link: &mut [u8]) -> Seen {
-    text(b", move");
-    let given = seen.head;
-    let moved = calls::advance(given, ground, learned, link);
-    let after = moved.head;
-    Seen {
-        head: after,
-        answer: move_answer(moved),
-        expanded: seen.expanded,
-        right: seen.right,
-    }
+// `move`, which is a word of the language.
+pub fn advance(mut s: State) -> State {
+    let given = s.head;
+    let mut ground = s.ground;
+    let mut learned = s.learned;
+    let mut link = s.link;
+    let moved = calls::advance(
+        given,
+        &lending::bytes(&mut ground, s.room, s.short, 1)[..],
+        &lending::words(&mut learned, s.room, s.short, 2)[..],
+        lending::bytes(&mut link, s.room, s.short, 3),
+    );
+    let step = moved.step;
+    let head = moved.head;
+    answers::step(step, head.cell);
+    s.head = head;
+    s.link = link;
+    s
 }
 
-fn question(seen: Seen, ground: &[u8], learned: &[u16], link: &[u8], list: &[u16]) -> Seen {
-    text(b", question ");
-    let head = seen.head;
-    let answer = listing::list_question(head, ground, learned, link, list);
-    number(answer);
-    Seen {
-        head,
-        answer,
-        expanded: seen.expanded,
-        right: seen.right,
-    }
-}
-
-// List: its front is printed, and its length is the answer.
-fn list(seen: Seen, ground: &[u8], learned: &[u16], link: &[u8], buffer: &mut [u16]) -> Seen {
-    let head = seen.head;
-    let front = listing::list(head, ground, learned, link, buffer);
+// `question`: the question, then list with its front, and list by its count.
+pub fn list(mut s: State) -> State {
+    let head = s.head;
+    let mut ground = s.ground;
+    let mut learned = s.learned;
+    let mut link = s.link;
+    let mut list = s.list;
+    let g = &lending::bytes(&mut ground, s.room, s.short, 1)[..];
+    let l = &lending::words(&mut learned, s.room, s.short, 2)[..];
+    let k = &lending::bytes(&mut link, s.room, s.short, 3)[..];
+    let buffer = lending::words(&mut list, s.room, s.short, 7);
+    number(listing::list_question(head, g, l, k, &buffer[..]));
+    let front = listing::list(head, g, l, k, &mut buffer[..]);
     let length = front.len();
-    text(b", list of ");
-    number(length);
-    words(b":", front, length);
-    Seen {
-        head,
-        answer: length,
-        expanded: seen.expanded,
-        right: seen.right,
-    }
-}
-
-fn count(seen: Seen, ground: &[u8], learned: &[u16], link: &[u8], buffer: &mut [u16]) -> Seen {
-    let head = seen.head;
-    text(b", count ");
-    let answer = listing::list_count(head, ground, learned, link, buffer);
-    number(answer);
-    Seen {
-        head,
-        answer,
-        expanded: seen.expanded,
-        right: seen.right,
-    }
-}
-
-// The call, over all that can be lent. Layout takes its sides, start and goal from the head.
-pub fn call(
-    seen: Seen,
-    what: u8,
-    c: usize,
-    ground: &mut [u8],
-    learned: &mut [u16],
-    link: &mut [u8],
-    mark: &mut [u8],
-    cost: &mut [u16],
-    trail: &mut [u8],
-    buffer: &mut [u16],
-) -> Seen {
-    match what {
-        b'l' => lay(seen, ground, learned, link),
-        b'r' => report(seen, c, ground, learned, link),
-        b'p' => plan(seen, ground, learned, link, mark, cost, trail),
-        b'm' => advance(seen, ground, learned, link),
-        b'q' => question(seen, ground, learned, link, buffer),
-        b't' => list(seen, ground, learned, link, buffer),
-        _ => count(seen, ground, learned, link, buffer),
-    }
+    words(0, b" list", front, length);
+    say(b" count", listing::list_count(head, g, l, k, buffer));
+    s.list = list;
+    s
 }

@@ -1,63 +1,91 @@
-// Runs document 01's worked examples P1 to P9 and its edges through the calls, and prints what they answer and leave in the
-// lent buffers; the file stdout holds what must come out. P10 and P11 are about the record, which has no calls yet.
-mod accepted;
+// Runs document 01's worked examples P1 to P9 and its edges through the calls: the file stdin is a script of them, and the file
+// stdout is that script with what each call answers and what it leaves in the buffers.
+mod answers;
 mod calling;
-mod data;
-mod edges;
-mod examples;
-mod fronts;
-mod held;
-mod large;
 mod lending;
-mod order;
-mod refusing;
-mod same;
-mod session;
+mod script;
 mod show;
-mod zeros;
+mod state;
 
-fn worked() {
-    examples::p1();
-    examples::p2();
-    examples::p3();
-    examples::p4();
-    examples::p5();
-    examples::p6();
-    examples::p7();
-    examples::p8();
-    examples::p9();
+use libc::STDIN_FILENO;
+use plot::Head;
+use script::line_end;
+use script::number;
+use show::say;
+use show::text;
+use state::State;
+use state::look;
+
+// What a line says, which is known by its first letter; its numbers are a, b, c and d. A letter that means nothing shows the
+// entries, so that a slip of the pen is seen.
+fn obey(s: State, letter: u8, a: usize, b: usize, c: usize, d: usize) -> State {
+    match letter {
+        b'#' => s,
+        b'f' => state::fresh(a, b, 99, 999),
+        b'z' => state::fresh(a, b, 0, 0),
+        b'h' => state::head(s, a, b, c, d),
+        b'c' => state::cell(s, a, b, c, d),
+        b'l' => calling::layout(s, a, b, c, d),
+        b'r' => calling::report(s, a),
+        b'p' => calling::plan(s),
+        b'm' => calling::advance(s),
+        b'q' => calling::list(s),
+        _ => state::entries(s, a),
+    }
 }
 
-fn inside() {
-    accepted::buffers_of_n();
-    accepted::start_and_goal();
-    accepted::goal_reported();
-    accepted::walk_to_the_end();
-    large::width();
-    large::height();
-    large::both();
-    large::no_way();
+// The head, where it is another than before.
+fn tell(before: Head, head: Head) {
+    let plot = (before.width == head.width) & (before.height == head.height);
+    if plot & (before.goal == head.goal) & (before.cell == head.cell) {
+        return;
+    }
+    say(b"; head", head.width);
+    show::number(head.height);
+    show::number(head.goal);
+    show::number(head.cell);
 }
 
-fn beyond() {
-    edges::bad_sides();
-    edges::layout_cells();
-    edges::cells();
-    edges::layout_buffers();
-    edges::buffers();
-    edges::routes();
+// A line is printed with what comes of it, and whether any entry of a buffer is then another.
+fn turn(s: State, letter: u8, line: &[u8]) -> State {
+    text(line);
+    let next = obey(
+        s,
+        letter,
+        number(line, 1),
+        number(line, 2),
+        number(line, 3),
+        number(line, 4),
+    );
+    let given = s.head;
+    let head = next.head;
+    tell(given, head);
+    if look(s, 0) != look(next, 0) {
+        text(b"; changed");
+    }
+    text(b"\n");
+    next
+}
+
+fn run(script: &[u8]) {
+    let mut s = state::fresh(0, 0, 0, 0);
+    let mut at = 0;
+    while at < script.len() {
+        let end = line_end(script, at);
+        s = turn(s, script[at], &script[at..end]);
+        if script.len() <= end {
+            return;
+        }
+        at = end + 1;
+    }
 }
 
 fn main() {
-    worked();
-    inside();
-    beyond();
-    data::ground_and_learned();
-    data::apart();
-    data::links();
-    data::off_the_plot();
-    data::no_route();
-    order::of_layout();
-    order::of_the_rest();
-    order::of_the_last();
+    let mut space: [u8; 16384] = [0; 16384];
+    let n = io::read_full(STDIN_FILENO, &mut space);
+    if n < 16384 {
+        run(&space[..n]);
+    } else {
+        text(b"the script is too long\n");
+    }
 }

@@ -1,15 +1,15 @@
 -- `worked::show::bytes` is safe and ends: the measure is what is left of the buffer. Assumes nothing.
-use native.Mathlib.Omega.{arith}
 use Prim.Native.Nat.{_-_}
+use native.Mathlib.Omega.{arith}
 use lib.ListN.{length}
 use Rattle.worked.proofs.show.bytes.Statement.{statement}
 use Rattle.worked.proofs.show.bytes.Tie as tie
 
 abbrev Inv-loop : tie.InvT-loop
-Inv-loop name buffer n i₀ i = Unit {0}
+Inv-loop sum name buffer n total₀ i₀ total i = Unit {0}
 
 abbrev μ-loop : tie.MeasureT-loop
-μ-loop name buffer n i₀ i = length buffer - i
+μ-loop sum name buffer n total₀ i₀ total i = length buffer - i
 
 text-requires : tie.Need-text-requires Inv-loop μ-loop
 text-requires c κs = tt
@@ -17,11 +17,11 @@ text-requires c κs = tt
 loop-holds : tie.Need-loop-holds Inv-loop μ-loop
 loop-holds c = tt
 
-shared-slice-read-byte : tie.Need-shared-slice-read-byte Inv-loop μ-loop
-shared-slice-read-byte c = omega arith
+shared-slice-read-entry : tie.Need-shared-slice-read-entry Inv-loop μ-loop
+shared-slice-read-entry c = omega arith
 
-byte-requires : tie.Need-byte-requires Inv-loop μ-loop
-byte-requires c κs = tt
+cast-entry : tie.Need-cast-entry Inv-loop μ-loop
+cast-entry c = omega (arith, c .shared-slice-known3 .given (c .before .before .loop .i))
 
 entry-requires : tie.Need-entry-requires Inv-loop μ-loop
 entry-requires c κs = tt
@@ -46,8 +46,8 @@ bytes-spec =
     μ-loop
     text-requires
     loop-holds
-    shared-slice-read-byte
-    byte-requires
+    shared-slice-read-entry
+    cast-entry
     entry-requires
     add-i
     loop-less

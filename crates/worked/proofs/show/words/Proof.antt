@@ -1,15 +1,15 @@
 -- `worked::show::words` is safe and ends: the measure is what is left of the buffer. Assumes nothing.
-use native.Mathlib.Omega.{arith}
 use Prim.Native.Nat.{_-_}
+use native.Mathlib.Omega.{arith}
 use lib.ListN.{length}
 use Rattle.worked.proofs.show.words.Statement.{statement}
 use Rattle.worked.proofs.show.words.Tie as tie
 
 abbrev Inv-loop : tie.InvT-loop
-Inv-loop name buffer n i₀ i = Unit {0}
+Inv-loop sum name buffer n total₀ i₀ total i = Unit {0}
 
 abbrev μ-loop : tie.MeasureT-loop
-μ-loop name buffer n i₀ i = length buffer - i
+μ-loop sum name buffer n total₀ i₀ total i = length buffer - i
 
 text-requires : tie.Need-text-requires Inv-loop μ-loop
 text-requires c κs = tt
@@ -17,14 +17,14 @@ text-requires c κs = tt
 loop-holds : tie.Need-loop-holds Inv-loop μ-loop
 loop-holds c = tt
 
-mul-word : tie.Need-mul-word Inv-loop μ-loop
-mul-word c = omega arith
+mul-entry : tie.Need-mul-entry Inv-loop μ-loop
+mul-entry c = omega arith
 
-shared-slice-read-word : tie.Need-shared-slice-read-word Inv-loop μ-loop
-shared-slice-read-word c = omega arith
+shared-slice-read-entry : tie.Need-shared-slice-read-entry Inv-loop μ-loop
+shared-slice-read-entry c = omega arith
 
-word-requires : tie.Need-word-requires Inv-loop μ-loop
-word-requires c κs = tt
+cast-entry : tie.Need-cast-entry Inv-loop μ-loop
+cast-entry c = omega (arith, c .shared-slice-known3 .given (c .before .before .loop .i))
 
 entry-requires : tie.Need-entry-requires Inv-loop μ-loop
 entry-requires c κs = tt
@@ -49,9 +49,9 @@ words-spec =
     μ-loop
     text-requires
     loop-holds
-    mul-word
-    shared-slice-read-word
-    word-requires
+    mul-entry
+    shared-slice-read-entry
+    cast-entry
     entry-requires
     add-i
     loop-less

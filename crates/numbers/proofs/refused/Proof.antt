@@ -1,0 +1,21 @@
+-- `numbers::refused` meets its contract: numbers are small. Assumes nothing.
+use Rattle.numbers.proofs.Numbering.{number-small}
+use native.Mathlib.Omega.{arith}
+use borrow.Author.Needs.{needs}
+use Rattle.numbers.proofs.refused.Statement.{statement}
+use Rattle.numbers.proofs.refused.Tie as tie
+
+number-requires : tie.Need-number-requires
+number-requires c κs = search needs
+
+cast-result : tie.Need-cast-result
+cast-result c = omega (arith, (c .number) .ensures, number-small ((c .before .args) .why))
+
+add-result : tie.Need-add-result
+add-result c = omega (arith, (c .number) .ensures, number-small ((c .before .args) .why))
+
+returns : tie.Need-returns
+returns c = search needs
+
+pub refused-spec : {M : Type 1} → statement M
+refused-spec = tie.close (tie.spec number-requires cast-result add-result returns)

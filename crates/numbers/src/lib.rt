@@ -1,0 +1,81 @@
+// What crosses to a host: answers as document 01's numbers, a refusal n being 70,000 + n, and as verdicts; the head in an array
+// (`heads`). Accepted lengths and cells are far below 2^32. The functions are no entry points; they serve crate `salenduro`.
+use plot::Length;
+use plot::Outcome;
+use plot::Reason;
+use plot::Step;
+use plot::Verdict;
+ghost use mathlib.Core.Path.{_≡_};
+ghost use Prim.Native.Nat.{_<_};
+ghost use Rattle.plot.specs.Numbers.{outcomeVerdict, stepVerdict, refusal, changedAnswer, planAnswer, moveAnswer, saveAnswer};
+
+pub mod heads;
+
+pub fn refused(why: Reason) -> u32
+    ensures { λ r. ⌜ r ≡ refusal why ⌝ }
+{
+    70000 + why.number() as u32
+}
+
+pub fn plan_answer(outcome: Outcome) -> u32
+    requires { ⌜ planAnswer outcome < 4294967296 ⌝ }
+    ensures { λ r. ⌜ r ≡ planAnswer outcome ⌝ }
+{
+    match outcome {
+        Outcome::Route(steps) => steps as u32,
+        Outcome::NoWay => 65535,
+        Outcome::Arrived => 0,
+        Outcome::Refused(why) => refused(why),
+    }
+}
+
+pub fn step_verdict(step: Step) -> Verdict
+    ensures { λ r. ⌜ r ≡ stepVerdict step ⌝ }
+{
+    match step {
+        Step::Moved => Verdict::Accepted,
+        Step::Arrived => Verdict::Accepted,
+        Step::Refused(why) => Verdict::Refused(why),
+    }
+}
+
+pub fn outcome_verdict(outcome: Outcome) -> Verdict
+    ensures { λ r. ⌜ r ≡ outcomeVerdict outcome ⌝ }
+{
+    match outcome {
+        Outcome::Route(_) => Verdict::Accepted,
+        Outcome::NoWay => Verdict::Accepted,
+        Outcome::Arrived => Verdict::Accepted,
+        Outcome::Refused(why) => Verdict::Refused(why),
+    }
+}
+
+pub fn changed_answer(verdict: Verdict) -> u32
+    ensures { λ r. ⌜ r ≡ changedAnswer verdict ⌝ }
+{
+    match verdict {
+        Verdict::Accepted => 0,
+        Verdict::Refused(why) => refused(why),
+    }
+}
+
+pub fn move_answer(cell: usize, step: Step) -> u32
+    requires { ⌜ moveAnswer cell step < 4294967296 ⌝ }
+    ensures { λ r. ⌜ r ≡ moveAnswer cell step ⌝ }
+{
+    match step {
+        Step::Moved => cell as u32,
+        Step::Arrived => cell as u32,
+        Step::Refused(why) => refused(why),
+    }
+}
+
+pub fn save_answer(length: Length) -> u32
+    requires { ⌜ saveAnswer length < 4294967296 ⌝ }
+    ensures { λ r. ⌜ r ≡ saveAnswer length ⌝ }
+{
+    match length {
+        Length::Bytes(n) => n as u32,
+        Length::Refused(why) => refused(why),
+    }
+}

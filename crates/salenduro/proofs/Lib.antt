@@ -1,0 +1,9 @@
+pub mod Reading
+pub mod Rewriting
+pub mod Reporting
+pub mod Planning
+pub mod Moving
+pub mod Fitting
+pub mod Hosting
+pub mod Coinciding
+pub mod Leaving

@@ -1,0 +1,5 @@
+pub mod Fronts
+pub mod Putting
+pub mod Packing
+pub mod Saving
+pub mod Whole

@@ -1,0 +1,3 @@
+pub mod Looking
+pub mod Falling
+pub mod Turning

@@ -1,0 +1,5 @@
+pub mod Text
+pub mod Drawing
+pub mod Turning
+pub mod Looking
+pub mod Example

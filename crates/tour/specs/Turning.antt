@@ -1,0 +1,98 @@
+-- One turn of the drive, a line of what it prints: "It looks at the four neighbours (direction order) at the start and after each
+-- move, and reports each blocked one not yet known; on the goal it ends; if no route stands it plans; then it moves."
+use Prim.Native.Nat.{ℕ, _+_}
+use mathlib.Core.Bool.{Bool, true, false, cond, _&&_}
+use mathlib.Core.List.{List}
+use lib.ListN.{getD}
+use lib.Dec.{ltb, eqb}
+use Rattle.plot.specs.Plot.{ahead, free}
+use Rattle.plot.specs.Lent.{Lent, Scratch}
+use Rattle.plot.specs.Head.{cellsOf}
+use Rattle.plot.specs.Route.{stands}
+use Rattle.plot.specs.Report.{reported}
+use Rattle.plot.specs.Plan.{planned}
+use Rattle.plot.specs.Move.{moved}
+use Rattle.plot.specs.declared.Head.{Head}
+use Rattle.plot.specs.declared.Outcome.{Outcome}
+use Rattle.tour.specs.declared.Line.{Line}
+use Rattle.tour.specs.declared.Turned.{Turned}
+
+-- the drive between two lines
+pub record Drive : Type 0 where
+  pub head : Head
+  pub held : Lent
+  pub scratch : Scratch
+  pub moves : ℕ
+
+-- a line, and the drive after it
+pub record Said : Type 0 where
+  pub line : Line
+  pub drive : Drive
+
+abbrev pub says : Line → Drive → Said
+says line k = record { line = line; drive = k }
+
+-- "on the goal it ends", and "where there is no way"
+abbrev pub isLast : Line → Bool
+isLast (Line.Blocked cell) = false
+isLast (Line.Plan length expanded) = false
+isLast (Line.Move cell) = false
+isLast (Line.Arrived moves) = true
+isLast (Line.NoWay expanded) = true
+
+-- the neighbour in direction d is blocked in truth, and not yet known to be
+unfoldable pub unknown : Head → (truth ground : List ℕ) (d : ℕ) → Bool
+unknown head truth ground d =
+    let c = ahead (head .width) (head .height) (head .cell) d in
+    ltb c (cellsOf head) && (eqb (getD truth c 0) 1 && free ground c)
+
+-- it, or N
+abbrev pub unknownBeside : Head → (truth ground : List ℕ) (d : ℕ) → ℕ
+unknownBeside head truth ground d = cond (unknown head truth ground d) (ahead (head .width) (head .height) (head .cell) d) (cellsOf head)
+
+-- the first such neighbour in direction order, or N
+unfoldable pub seen : Head → (truth ground : List ℕ) → ℕ
+seen head truth ground =
+    let beside = unknownBeside head truth ground in
+    let found = unknown head truth ground in
+    cond (found 1) (beside 1) (cond (found 2) (beside 2) (cond (found 3) (beside 3) (beside 4)))
+
+abbrev pub afterReport : Drive → (c : ℕ) → Drive
+afterReport k c =
+    let r = reported (k .head) (k .held) c in
+    record { head = r .answer .head; held = r .lists; scratch = k .scratch; moves = k .moves }
+
+abbrev pub afterMove : Drive → Drive
+afterMove k =
+    let r = moved (k .head) (k .held) in
+    record { head = r .answer .head; held = r .lists; scratch = k .scratch; moves = k .moves + 1 }
+
+abbrev pub afterPlan : Drive → Drive
+afterPlan k =
+    let r = planned (k .head) (k .held) (k .scratch) in
+    record { head = r .answer .head; held = r .lists; scratch = r .scratch; moves = k .moves }
+
+-- "`plan` length, expanded cells"; "Where there is no way the plan line is `no way E`". (A plan here is never refused, and never
+-- on the goal.)
+abbrev pub planLine : Outcome → (expanded : ℕ) → Line
+planLine (Outcome.Route length) expanded = Line.Plan length expanded
+planLine Outcome.NoWay expanded = Line.NoWay expanded
+planLine Outcome.Arrived expanded = Line.NoWay expanded
+planLine (Outcome.Refused why) expanded = Line.NoWay expanded
+
+unfoldable pub turn : (truth : List ℕ) → Drive → Said
+turn truth k =
+    let c = seen (k .head) truth (k .held .ground) in
+    let answer = planned (k .head) (k .held) (k .scratch) .answer in
+    cond (ltb c (cellsOf (k .head))) (says (Line.Blocked c) (afterReport k c))
+    (cond (eqb (k .head .cell) (k .head .goal)) (says (Line.Arrived (k .moves)) k)
+    (cond (stands (k .head) (k .held)) (says (Line.Move (afterMove k .head .cell)) (afterMove k))
+    (says (planLine (answer .outcome) (answer .expanded)) (afterPlan k))))
+
+-- What the function answers and leaves, as the drive --------------------------------------------------------------------------------
+
+abbrev pub driveWith : Head → Lent → Scratch → (moves : ℕ) → Drive
+driveWith head p s moves = record { head = head; held = p; scratch = s; moves = moves }
+
+abbrev pub saidWith : Turned → Lent → Scratch → Said
+saidWith r p s = says (r .line) (driveWith (r .head) p s (r .moves))
