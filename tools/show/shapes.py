@@ -1,0 +1,85 @@
+"""Colours and small shapes of the SVG pictures. The colours are Okabe and Ito's, which colour-blind people can tell apart;
+whatever matters differs in shape, hatch or lightness too."""
+
+from html import escape
+
+INK, QUIET, LINE, PAPER = "#222222", "#5a5a5a", "#e2e2e2", "#ffffff"
+KNOWN, UNKNOWN = "#3d3d3d", "#8c8c8c"
+DRIVEN, ROUTE, START, GOAL = "#D55E00", "#0072B2", "#009E73", "#F0E442"
+# how often a cell was expanded, from once on: light to dark, so that it reads without colour too
+HEAT = (("1", "#DDEFFB"), ("2", "#B0D9F5"), ("3 to 5", "#79BFEC"), ("6 or more", "#3A96D0"))
+FONT = "system-ui, -apple-system, 'Segoe UI', Helvetica, Arial, 'DejaVu Sans', sans-serif"
+
+# the hatch has nothing between its lines, so that one sees below it whether a cell was expanded
+DEFINITIONS = (
+    '<defs><pattern id="hatch" width="5" height="5" patternUnits="userSpaceOnUse" patternTransform="rotate(45)">'
+    f'<rect width="1.6" height="5" fill="{UNKNOWN}"/></pattern></defs>'
+)
+
+
+def heat(times):
+    return HEAT[0 if times < 2 else 1 if times < 3 else 2 if times < 6 else 3][1]
+
+
+def short(number):
+    """A coordinate with at most two decimals."""
+    return f"{number:.2f}".rstrip("0").rstrip(".")
+
+
+def words(x, y, text, size=13, fill=INK, bold=False, anchor="start"):
+    weight = ' font-weight="600"' if bold else ""
+    place = "" if anchor == "start" else f' text-anchor="{anchor}"'
+    return f'<text x="{short(x)}" y="{short(y)}" font-size="{short(size)}" fill="{fill}"{weight}{place}>{escape(text)}</text>'
+
+
+def box(x, y, width, height, fill, stroke="none", round_by=0):
+    corner = f' rx="{short(round_by)}"' if round_by else ""
+    edge = "" if stroke == "none" else f' stroke="{stroke}"'
+    return f'<rect x="{short(x)}" y="{short(y)}" width="{short(width)}" height="{short(height)}"{corner} fill="{fill}"{edge}/>'
+
+
+def disc(x, y, radius, fill, stroke=PAPER, thick=1.5):
+    return f'<circle cx="{short(x)}" cy="{short(y)}" r="{short(radius)}" fill="{fill}" stroke="{stroke}" stroke-width="{short(thick)}"/>'
+
+
+def diamond(x, y, radius):
+    """The goal's mark."""
+    corners = ((x, y - radius), (x + radius, y), (x, y + radius), (x - radius, y))
+    return f'<path d="{outline(corners)}Z" fill="{GOAL}" stroke="{INK}" stroke-width="{short(max(1, radius / 8))}"/>'
+
+
+def cross(x, y, radius):
+    """The mark of a cart that has no way."""
+    arms = f"M{short(x - radius)} {short(y - radius)}L{short(x + radius)} {short(y + radius)}M{short(x - radius)} {short(y + radius)}L{short(x + radius)} {short(y - radius)}"
+    thick = short(radius / 1.6)
+    return stroke(arms, PAPER, float(thick) + 3) + stroke(arms, INK, float(thick))
+
+
+def outline(points):
+    return "M" + "L".join(f"{short(x)} {short(y)}" for x, y in points)
+
+
+def stroke(path, colour, thick, dashes=""):
+    dashed = f' stroke-dasharray="{dashes}"' if dashes else ""
+    return f'<path d="{path}" fill="none" stroke="{colour}" stroke-width="{short(thick)}" stroke-linejoin="round" stroke-linecap="round"{dashed}/>'
+
+
+def area(plot, cells, x, y, side, fill, opacity=1):
+    """Whole cells in one fill; those that touch in a row are one piece, so that no seam shows between them."""
+    pieces, ordered = [], sorted(cells)
+    while ordered:
+        first = last = ordered.pop(0)
+        while ordered and ordered[0] == last + 1 and ordered[0] % plot.width:
+            last = ordered.pop(0)
+        row, column = plot.place(first)
+        wide = short((last - first + 1) * side)
+        pieces.append(f"M{short(x + column * side)} {short(y + row * side)}h{wide}v{short(side)}h-{wide}z")
+    through = "" if opacity == 1 else f' fill-opacity="{opacity}"'
+    return f'<path d="{"".join(pieces)}" fill="{fill}"{through}/>' if pieces else ""
+
+
+def grid(plot, x, y, side):
+    across, down = plot.width * side, plot.height * side
+    lines = [f"M{short(x + k * side)} {short(y)}v{short(down)}" for k in range(plot.width + 1)]
+    lines += [f"M{short(x)} {short(y + k * side)}h{short(across)}" for k in range(plot.height + 1)]
+    return f'<path d="{"".join(lines)}" stroke="{LINE}" fill="none"/>'
