@@ -43,16 +43,18 @@ def to_the_right(way):
     return -way[1], way[0]
 
 
-def arrows(plot, path, x, y, side, aside, every):
-    """Small arrowheads on the line: one at every so many steps, between two cells."""
-    long, half = max(side * 0.26, 5), max(side * 0.17, 3.2)
-    heads = []
+def arrows(plot, path, x, y, side, aside, every, marked):
+    """Arrowheads on the line, between two cells, some `every` steps apart and clear of marked cells."""
+    long, half = max(side * 0.16, 3), max(side * 0.17, 3.2)
+    heads, since = [], every // 2
     for place, (right, down) in enumerate(headings(plot, path)):
-        if place % every != every // 2:
+        since += 1
+        if since < every or path[place] in marked or path[place + 1] in marked:
             continue
+        since = 0
         a, b = centre(plot, path[place], x, y, side), centre(plot, path[place + 1], x, y, side)
         middle = (a[0] + b[0]) / 2 - down * aside * side, (a[1] + b[1]) / 2 + right * aside * side
-        tip = middle[0] + right * long * 0.6, middle[1] + down * long * 0.6
-        back = middle[0] - right * long * 0.6, middle[1] - down * long * 0.6
+        tip = middle[0] + right * long, middle[1] + down * long
+        back = middle[0] - right * long, middle[1] - down * long
         heads.append([tip, (back[0] - down * half, back[1] + right * half), (back[0] + down * half, back[1] - right * half)])
     return heads

@@ -98,12 +98,12 @@ function drawGround(pen, now, s, showTrue) {
   const expanded = now.plan ? fromRuns(now.plan.expanded) : [];
   for (const cell of expanded) fillCell(pen, cell, s, colours.expanded);
   for (let cell = 0; cell < cells; cell++) {
-    if (now.known.has(cell)) fillCell(pen, cell, s, colours.known);
-    else if (showTrue && drive.ground[cell] === "#") hatch(pen, columnOf(cell) * s, rowOf(cell) * s, s);
+    if (showTrue && drive.ground[cell] === "#" && !now.known.has(cell)) hatch(pen, columnOf(cell) * s, rowOf(cell) * s, s);
   }
   pen.fillStyle = colours.line;
   for (let k = 0; k <= drive.width; k++) pen.fillRect(k * s - 0.5, 0, 1, drive.height * s);
   for (let k = 0; k <= drive.height; k++) pen.fillRect(0, k * s - 0.5, drive.width * s, 1);
+  for (const cell of now.known) fillCell(pen, cell, s, colours.known);
   for (const cell of expanded) {
     const [x, y] = centreOf(cell, s);
     pen.fillStyle = colours.dot;
@@ -111,18 +111,21 @@ function drawGround(pen, now, s, showTrue) {
   }
 }
 
-// Numbers where a cell has room for one; else a spot where the distance is more than Manhattan's.
+// Numbers, clear of the lines, where a cell has room for one; else a spot where the distance is more than Manhattan's.
 function drawLearned(pen, now, s) {
   const { learned, raised } = learnedAfter(now.plans);
-  pen.textAlign = "center";
-  pen.textBaseline = "middle";
+  pen.lineJoin = "round";
   for (let cell = 0; cell < cells; cell++) {
     if (now.known.has(cell)) continue;
     const [x, y] = centreOf(cell, s), more = raised.has(cell);
     pen.fillStyle = more ? colours.raised : "#767676";
-    pen.font = `${more ? "bold " : ""}${Math.round(s * 0.4)}px system-ui, sans-serif`;
-    if (s >= 20) pen.fillText(learned[cell], x, y + s * 0.04);
-    else if (more) { pen.beginPath(); pen.arc(x, y, s * 0.22, 0, 2 * Math.PI); pen.fill(); }
+    pen.font = `${more ? "bold " : ""}${Math.round(s * 0.33)}px system-ui, sans-serif`;
+    if (s >= 24) {
+      pen.strokeStyle = "rgba(255, 255, 255, 0.85)";
+      pen.lineWidth = 3;
+      pen.strokeText(learned[cell], x - s * 0.45, y + s * 0.45);
+      pen.fillText(learned[cell], x - s * 0.45, y + s * 0.45);
+    } else if (more) { pen.beginPath(); pen.arc(x, y, s * 0.22, 0, 2 * Math.PI); pen.fill(); }
   }
 }
 

@@ -24,7 +24,7 @@ function show(to) {
   part("place").textContent = `step ${step} of ${last}`;
   part("line").textContent = step ? drive.lines[step - 1] : "(before the first line)";
   part("words").textContent = wordsFor(now);
-  const counts = [["moves", now.moves], ["fewest, were all known", drive.fewest], ["plans", now.plans],
+  const counts = [["moves", now.moves], ["fewest if all were known", drive.fewest], ["plans", now.plans],
     ["blocked cells reported", now.known.size], ["cells expanded, in all plans", now.expanded]];
   part("counts").replaceChildren(...counts.map(([words, number]) => {
     const row = document.createElement("tr");

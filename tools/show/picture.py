@@ -2,8 +2,10 @@
 and below it what the cart knew and planned at each plan."""
 
 from collections import defaultdict
+from html import escape
 
 from . import lane, plans
+from .replay import many
 from .shapes import (
     DEFINITIONS, DRIVEN, FONT, GOAL, HEAT, INK, KNOWN, LINE, PAPER, QUIET, START,
     area, box, cross, diamond, disc, grid, heat, outline, short, stroke, words,
@@ -11,15 +13,15 @@ from .shapes import (
 
 EDGE, TOP, GAP, PANEL = 24, 74, 28, 236
 ASIDE = 0.16
-# the smallest cell that has room for a plan's number
-NUMBERED = 18
+# room for the line below the title; the smallest cell that has room for a plan's number
+NARROWEST, NUMBERED = 720, 18
 
 
 def picture(drive, name):
     """The SVG's text."""
     plot = drive.plot
     side = cell_side(plot)
-    wide = max(EDGE + plot.width * side + GAP + PANEL + EDGE, 640)
+    wide = max(EDGE + plot.width * side + GAP + PANEL + EDGE, NARROWEST)
     panel = EDGE + plot.width * side + GAP
     beside, panel_end = counts(drive, panel, TOP)
     key, key_end = legend(drive, panel, panel_end + 18)
@@ -28,7 +30,7 @@ def picture(drive, name):
     high = end + EDGE
     parts = [
         f'<svg xmlns="http://www.w3.org/2000/svg" viewBox="0 0 {short(wide)} {short(high)}" width="{short(wide)}" height="{short(high)}" font-family="{FONT}" role="img">',
-        f"<title>{title(drive, name, plain=True)}</title>",
+        f"<title>{escape(title(drive, name))}</title>",
         DEFINITIONS,
         box(0.5, 0.5, wide - 1, high - 1, PAPER, "#cfcfcf", 8),
         words(EDGE, 36, title(drive, name), 20, bold=True),
@@ -38,10 +40,9 @@ def picture(drive, name):
     return "\n".join(part for part in parts if part) + "\n"
 
 
-def title(drive, name, plain=False):
+def title(drive, name):
     ending = "arrived" if drive.arrived else "no way"
-    said = f"{name}: {ending} after {len(drive.path) - 1} moves"
-    return said.replace("&", "&amp;").replace("<", "&lt;") if plain else said
+    return f"{name}: {ending} after {many(len(drive.path) - 1, 'move')}"
 
 
 def ground(drive, x, y, side):
@@ -58,22 +59,27 @@ def ground(drive, x, y, side):
     yield grid(plot, x, y, side)
     yield area(plot, drive.known, x, y, side, KNOWN)
     yield "</g>"
-    line = outline(lane.lane(plot, drive.path, x, y, side, ASIDE))
-    thick = max(2.2, side * 0.11)
-    if len(drive.path) > 1:
-        yield stroke(line, PAPER, thick + 2)
-        yield stroke(line, DRIVEN, thick)
-    heads = lane.arrows(plot, drive.path, x, y, side, ASIDE, 3 if side > 16 else 6)
+    yield from driven(drive, x, y, side)
+
+
+def driven(drive, x, y, side):
+    """The path's line with its arrowheads, set off from the cells by a white edge."""
+    plot, path = drive.plot, drive.path
+    if len(path) == 1:
+        return
+    line, thick = outline(lane.lane(plot, path, x, y, side, ASIDE)), max(2.2, side * 0.11)
+    yield '<g id="driven">' + stroke(line, PAPER, thick + 2) + stroke(line, DRIVEN, thick)
+    marked = {plot.start, plot.goal, *(plan.cell for plan in drive.plans)}
+    heads = lane.arrows(plot, path, x, y, side, ASIDE, 3 if side >= NUMBERED else 6, marked)
     shape = "".join(outline(head) + "Z" for head in heads)
-    if shape:
-        yield f'<path d="{shape}" fill="{DRIVEN}" stroke="{PAPER}" stroke-width="0.8"/>'
+    yield (f'<path d="{shape}" fill="{DRIVEN}" stroke="{PAPER}" stroke-width="0.8"/>' if shape else "") + "</g>"
 
 
 def marks(drive, x, y, side):
     """The start, the goal, where the cart planned again, and where it found no way."""
     plot, places = drive.plot, defaultdict(list)
     for number, plan in enumerate(drive.plans, 1):
-        if number > 1:
+        if number > 1 and plan.route:
             places[plan.cell].append(str(number))
     radius = side * 0.4
     at = {cell: lane.centre(plot, cell, x, y, side) for cell in {plot.start, plot.goal, drive.path[-1], *places}}
@@ -137,7 +143,7 @@ def legend(drive, x, y):
 
 def cell_side(plot):
     """Room for the marks even in the largest plot, and no more than a small one needs."""
-    return max(13, min(36, 640 // plot.width, 640 // plot.height))
+    return max(13, min(48, 640 // plot.width, 480 // plot.height))
 
 
 def sample_line(x, y, wide):

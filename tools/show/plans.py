@@ -2,9 +2,10 @@
 that it expanded for it."""
 
 from . import lane
+from .replay import many
 from .shapes import DRIVEN, HEAT, INK, KNOWN, LINE, PAPER, QUIET, ROUTE, area, box, cross, diamond, disc, outline, short, stroke, words
 
-MOST, GAP, ABOVE, BELOW = 8, 20, 37, 22
+ENOUGH, GAP, ABOVE, BELOW = 8, 20, 37, 22
 EXPANDED, NOT_KNOWN = HEAT[1][1], "#d4d4d4"
 
 
@@ -13,15 +14,16 @@ def strip(drive, x, y, wide):
     if not drive.plans:
         return [], y
     plot = drive.plot
-    side = max(1.5, min(200 / plot.width, 200 / plot.height, 12))
+    side = max(1.5, min(200 / plot.width, 200 / plot.height, 24))
     each, each_high = max(plot.width * side, 190), ABOVE + plot.height * side + BELOW
     columns = max(1, int((wide + GAP) // (each + GAP)))
-    chosen = choose(list(enumerate(drive.until_plans(), 1)))
+    chosen = choose(list(enumerate(drive.until_plans(), 1)), columns * -(-ENOUGH // columns))
     few = len(chosen) == len(drive.plans)
     head = "What the cart knew and planned, " + ("at each plan" if few else f"at {len(chosen)} of its {len(drive.plans)} plans")
     parts = [f'<path d="M{short(x)} {short(y)}h{short(wide)}" stroke="{LINE}"/>', words(x, y + 30, head, 16, bold=True)]
-    parts += legend(x, y + 54)
-    y += 78
+    key, y = legend(x, y + 54, wide)
+    parts += key
+    y += 24
     for place, (number, told) in enumerate(chosen):
         row, column = divmod(place, columns)
         parts += small(drive, number, told, x + column * (each + GAP), y + row * each_high, side)
@@ -29,18 +31,18 @@ def strip(drive, x, y, wide):
     return parts, y + rows * each_high - BELOW
 
 
-def choose(plans):
-    """All of them, or so many from the first to the last, evenly spread."""
-    if len(plans) <= MOST:
+def choose(plans, most):
+    """All of them, or as many as fill whole rows, from the first to the last, evenly spread."""
+    if len(plans) <= most:
         return plans
-    return [plans[place * (len(plans) - 1) // (MOST - 1)] for place in range(MOST)]
+    return [plans[place * (len(plans) - 1) // (most - 1)] for place in range(most)]
 
 
 def small(drive, number, told, x, y, side):
     plan, path, known = told
     plot = drive.plot
     blocked = {cell for cell in range(plot.cells) if plot.blocked[cell]}
-    moves = "at the start" if len(path) == 1 else f"after {len(path) - 1} moves"
+    moves = "at the start" if len(path) == 1 else f"after {many(len(path) - 1, 'move')}"
     answer = "no way" if plan.length is None else f"length {plan.length}"
     yield words(x, y + 12, f"Plan {number}, {moves}", 13, bold=True)
     yield words(x, y + 29, f"{answer}, {len(plan.expanded)} expanded", 12.5, QUIET)
@@ -60,7 +62,8 @@ def small(drive, number, told, x, y, side):
     yield disc(*at, max(3.4, side * 0.42), DRIVEN, INK, 1) if plan.route else cross(*at, max(3, side * 0.4))
 
 
-def legend(x, y):
+def legend(x, y, wide):
+    """What the small maps' shapes mean, in as many lines as it takes; and where the last stands."""
     entries = [
         (box(x, y - 10, 18, 12, KNOWN), "known blocked"),
         (box(x, y - 10, 18, 12, NOT_KNOWN), "blocked, not known yet"),
@@ -69,7 +72,11 @@ def legend(x, y):
         (stroke(f"M{short(x)} {short(y - 4)}h20", DRIVEN, 2.2), "driven so far"),
         (disc(x + 9, y - 4, 5, DRIVEN, INK, 1), "cart"),
     ]
-    along = 0
+    parts, along, first = [], 0, y
     for shape, text in entries:
-        yield f'<g transform="translate({short(along)} 0)">{shape}{words(x + 25, y, text, 12, QUIET)}</g>'
-        along += 25 + len(text) * 6.8 + 18
+        long = 25 + len(text) * 6.8
+        if along + long > wide:
+            along, y = 0, y + 22
+        parts.append(f'<g transform="translate({short(along)} {short(y - first)})">{shape}{words(x + 25, first, text, 12, QUIET)}</g>')
+        along += long + 18
+    return parts, y

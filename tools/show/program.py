@@ -5,10 +5,12 @@ import os
 import platform
 import shutil
 import subprocess
+import sys
 from pathlib import Path
 
 # far more than any drive takes under an emulator
 PATIENCE = 600
+BAD_INPUT = "bad input\n"
 
 
 class NoProgram(Exception):
@@ -39,7 +41,7 @@ def older(program, crates):
 
 
 def build(root):
-    print("show: proving and building the drive program (rt check drive); from nothing this takes some minutes", flush=True)
+    print("show: building the proved drive program (rt check drive), which takes some minutes from nothing", file=sys.stderr, flush=True)
     run_kit(root, "check", "drive")
     if not (root / "target" / "bin" / "drive").exists():
         raise NoProgram("'rt check drive' wrote no target/bin/drive")
@@ -69,6 +71,8 @@ def printed(words, drawing):
         raise NoProgram(f"{words[-1]}: {error.strerror}") from None
     except subprocess.TimeoutExpired:
         raise Failed(f"drive did not end within {PATIENCE} seconds") from None
-    if ended.returncode != 0:
+    said = ended.stdout.decode("latin-1")
+    # document 01 leaves open how a program ends that was given bad input
+    if ended.returncode != 0 and said != BAD_INPUT:
         raise Failed(f"drive ended with status {ended.returncode}")
-    return ended.stdout.decode("latin-1")
+    return said

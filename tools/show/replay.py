@@ -45,9 +45,10 @@ def turns(plot):
 
 def replay(plot, printed):
     """The whole drive, once each line of `printed` is found to be the one that document 01 gives."""
-    lines = printed.split("\n")
-    ended = lines.pop() == ""
-    steps = []
+    lines, steps = printed.split("\n"), []
+    ended = lines[-1] == ""
+    if ended:
+        lines.pop()
     for place, step in enumerate(turns(plot), 1):
         line = lines[place - 1] if place <= len(lines) else None
         if line != step.line:
@@ -75,11 +76,11 @@ class Drive:
 
     def counts(self):
         """Words and numbers, in the order in which every view shows them."""
-        shortest = fewest(self.plot)
+        moves, shortest = len(self.path) - 1, fewest(self.plot)
         return [
-            ("moves", len(self.path) - 1),
-            ("fewest, were all known", "none" if shortest is None else shortest),
-            ("plans", len(self.plans)),
+            ("move" if moves == 1 else "moves", moves),
+            ("fewest if all were known", "none" if shortest is None else shortest),
+            ("plan" if len(self.plans) == 1 else "plans", len(self.plans)),
             ("blocked cells reported", len(self.known)),
             ("cells expanded, in all plans", sum(self.times.values())),
         ]
@@ -94,6 +95,10 @@ class Drive:
                 known.add(step.reported)
             elif step.cell != path[-1]:
                 path.append(step.cell)
+
+
+def many(number, thing):
+    return f"{number} {thing}" if number == 1 else f"{number} {thing}s"
 
 
 def fewest(plot):

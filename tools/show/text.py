@@ -1,6 +1,8 @@
 """The drive for a terminal, in plain characters: what the cart knew and planned at each plan of a small plot, the ground with
 the path at the end, and the counts."""
 
+from .replay import many
+
 # a plot with sides or plans beyond these has its last map only
 WIDEST, HIGHEST, MOST_PLANS = 40, 24, 12
 ARROWS = {1: ">", 2: "v", 3: "<", 4: "^"}
@@ -22,7 +24,7 @@ def view(drive, name, colour):
         yield ""
         for number, (plan, path, known) in enumerate(drive.until_plans(), 1):
             answer = "no way" if plan.length is None else f"length {plan.length}"
-            yield f"plan {number}, after {len(path) - 1} moves: {answer}, expanded {len(plan.expanded)}"
+            yield f"plan {number}, after {many(len(path) - 1, 'move')}: {answer}, expanded {len(plan.expanded)}"
             yield from framed(plot, at_plan(plot, plan, known), colour)
             yield ""
     yield AT_END

@@ -1,0 +1,104 @@
+"""The replay is document 01's: its example, P1 to P9 as data, and the drive program's lines on random plots."""
+
+import random
+import unittest
+
+import common
+from show import cart, plot, replay
+
+EXAMPLE = b"3 2 0 2\n.#.\n...\n"
+EXAMPLE_LINES = "blocked 1\nplan 4 4\nmove 3\nmove 4\nmove 5\nmove 2\narrived 4\n"
+
+
+def fresh(width, height, start, goal):
+    return cart.Cart(plot.Plot(width, height, start, goal, (False,) * (width * height)))
+
+
+def lines(drawing):
+    return "".join(step.line + "\n" for step in replay.turns(plot.read(drawing)))
+
+
+class Examples(unittest.TestCase):
+    def test_the_drive_of_document_01(self):
+        self.assertEqual(lines(EXAMPLE), EXAMPLE_LINES)
+        self.assertEqual(common.printed(EXAMPLE), EXAMPLE_LINES)
+
+    def test_p1(self):
+        self.assertEqual(fresh(1, 1, 0, 0).learned, [0])
+        self.assertEqual(lines(b"1 1 0 0\n.\n"), "arrived 0\n")
+
+    def test_p2_p3_p4(self):
+        one = fresh(3, 1, 0, 2)
+        plan = one.plan()
+        self.assertEqual((plan.length, len(plan.expanded), plan.route), (2, 2, [0, 1, 2]))
+        self.assertEqual((one.learned, one.link), ([2, 1, 0], [1, 1, 0]))
+        self.assertEqual((one.mark, one.cost, one.trail), ([2, 2, 1], [0, 1, 2], [0, 1, 1]))
+        again = one.plan()
+        self.assertEqual((again.length, again.expanded), (2, []))
+        self.assertEqual((one.mark, one.cost), ([1, 0, 0], [0, 65535, 65535]))
+        one.move()
+        self.assertEqual((one.cell, one.link), (1, [0, 1, 0]))
+
+    def test_p5_p6(self):
+        one = fresh(3, 1, 0, 2)
+        one.report(1)
+        plan = one.plan()
+        self.assertEqual((plan.length, len(plan.expanded), plan.route), (None, 1, []))
+        self.assertEqual((one.learned, one.mark), ([2, 1, 0], [2, 0, 0]))
+        one = fresh(3, 1, 0, 2)
+        one.plan()
+        one.report(1)
+        self.assertEqual((one.link, one.listed(0)), ([0, 0, 0], []))
+
+    def test_p7(self):
+        one = fresh(3, 2, 0, 2)
+        one.report(1)
+        plan = one.plan()
+        self.assertEqual((one.learned, one.link), ([4, 1, 0, 3, 2, 1], [2, 0, 0, 1, 1, 4]))
+        self.assertEqual((plan.route, plan.learned), ([0, 3, 4, 5, 2], {0: 4}))
+
+    def test_p8(self):
+        one = fresh(2, 2, 0, 3)
+        plan = one.plan()
+        self.assertEqual((plan.length, len(plan.expanded)), (2, 2))
+        self.assertEqual((one.link, one.mark), ([1, 2, 0, 0], [2, 2, 1, 1]))
+
+    def test_p9(self):
+        one = fresh(3, 2, 3, 2)
+        plan = one.plan()
+        self.assertEqual((plan.length, len(plan.expanded), one.link), (3, 3, [1, 1, 0, 4, 0, 0]))
+
+
+class Drives(unittest.TestCase):
+    def test_random_plots(self):
+        chance, ways = random.Random(20261115), {"arrived": 0, "no": 0}
+        for _ in range(240):
+            drawing = random_drawing(chance)
+            said = common.printed(drawing)
+            self.assertEqual(lines(drawing), said, drawing.decode())
+            ways[said.splitlines()[-1].split()[0]] += 1
+        self.assertGreater(min(ways.values()), 20, "drives of both endings are wanted")
+
+    def test_sample_plots(self):
+        for path in sorted(common.PLOTS.glob("*.txt")):
+            with self.subTest(path.name):
+                self.assertEqual(lines(path.read_bytes()), common.printed(path.read_bytes()))
+
+    def test_the_samples_learn(self):
+        for name in ("rows", "nursery"):
+            drawing = (common.PLOTS / f"{name}.txt").read_bytes()
+            drive = replay.replay(plot.read(drawing), common.printed(drawing))
+            self.assertTrue(drive.arrived)
+            self.assertGreater(len(drive.path), replay.fewest(drive.plot) + 1, "it turns back somewhere")
+            self.assertTrue(any(plan.stop != drive.plot.goal for plan in drive.plans), "an older route is met")
+
+
+def random_drawing(chance):
+    most = chance.choice((4, 9, 9, 20, 64))
+    width, height = chance.randint(1, most), chance.randint(1, most)
+    dense = chance.choice((0.05, 0.2, 0.3, 0.4))
+    cells = ["#" if chance.random() < dense else "." for _ in range(width * height)]
+    start, goal = chance.randrange(width * height), chance.randrange(width * height)
+    cells[start] = "."
+    rows = ["".join(cells[row * width:(row + 1) * width]) + "\n" for row in range(height)]
+    return (f"{width} {height} {start} {goal}\n" + "".join(rows)).encode()
