@@ -84,6 +84,11 @@ class Drives(unittest.TestCase):
             with self.subTest(path.name):
                 self.assertEqual(lines(path.read_bytes()), common.printed(path.read_bytes()))
 
+    def test_an_old_link_that_no_longer_leads_down(self):
+        # a maze in which a search meets links that lead to the goal while the learned values on them do not fall by 1
+        drawing = (common.ROOT / "tests" / "show" / "old-link.txt").read_bytes()
+        self.assertEqual(lines(drawing), common.printed(drawing))
+
     def test_the_samples_learn(self):
         for name in ("rows", "nursery"):
             drawing = (common.PLOTS / f"{name}.txt").read_bytes()

@@ -1,4 +1,4 @@
-"""The picture, the page and the text view: well formed, of the whole drive, and of nothing else; and docs/drive.svg is current."""
+"""The picture, the page and the text view are well formed and of the whole drive; docs/drive.svg is current."""
 
 import html.parser
 import json
@@ -23,7 +23,7 @@ def samples():
     yield "tall", drive_of(b"1 64 63 0\n" + b".\n" * 64)
     yield "wide", drive_of(b"64 1 0 63\n" + b"." * 64 + b"\n")
     # walls of teeth: many plans, and each expands much
-    teeth = "".join(("." * 64 if row % 2 == 0 else "#" * 63 + "." if row % 4 == 1 else "." + "#" * 63) + "\n" for row in range(64))
+    teeth = "".join(("." * 64, "#" * 63 + ".", "." * 64, "." + "#" * 63)[row % 4] + "\n" for row in range(64))
     yield "teeth", drive_of(b"64 64 0 4032\n" + teeth.encode())
 
 

@@ -30,7 +30,7 @@ function strokeLine(pen, points, colour, wide, dashes) {
   pen.beginPath();
   points.forEach(([x, y], k) => (k ? pen.lineTo(x, y) : pen.moveTo(x, y)));
   pen.strokeStyle = "#ffffff";
-  pen.lineWidth = wide + 2.5;
+  pen.lineWidth = wide * 1.8;
   pen.stroke();
   pen.setLineDash(dashes);
   pen.strokeStyle = colour;
@@ -82,7 +82,7 @@ function cartAt(pen, x, y, r, [right, down]) {
   pen.translate(x, y);
   pen.rotate(Math.atan2(down, right));
   pen.beginPath();
-  for (const [a, b] of [[-r, -r * 0.8], [r * 0.35, -r * 0.8], [r * 1.15, 0], [r * 0.35, r * 0.8], [-r, r * 0.8]]) pen.lineTo(a, b);
+  for (const [a, b] of [[-1, -0.8], [0.35, -0.8], [1.15, 0], [0.35, 0.8], [-1, 0.8]]) pen.lineTo(a * r, b * r);
   pen.closePath();
   pen.fillStyle = colours.driven;
   pen.fill();
@@ -132,7 +132,9 @@ function drawLearned(pen, now, s) {
 function drawStep(pen, now, s, shows) {
   drawGround(pen, now, s, shows.ground);
   if (now.path.length > 1) strokeLine(pen, laneOf(now.path, s), colours.driven, Math.max(1.6, s * 0.1), []);
-  if (now.route.length > 1) strokeLine(pen, now.route.map((cell) => centreOf(cell, s)), now.broken ? "#777777" : colours.route, Math.max(2, s * 0.12), [s * 0.28, s * 0.28]);
+  const ahead = now.route.map((cell) => centreOf(cell, s));
+  const colour = now.broken ? "#777777" : colours.route;
+  if (ahead.length > 1) strokeLine(pen, ahead, colour, Math.max(2, s * 0.12), [s * 0.28, s * 0.28]);
   disc(pen, ...centreOf(drive.start, s), Math.max(4, s * 0.28), colours.start);
   diamond(pen, ...centreOf(drive.goal, s), Math.max(5, s * 0.44));
   if (shows.learned) drawLearned(pen, now, s);

@@ -28,7 +28,7 @@ function show(to) {
     ["blocked cells reported", now.known.size], ["cells expanded, in all plans", now.expanded]];
   part("counts").replaceChildren(...counts.map(([words, number]) => {
     const row = document.createElement("tr");
-    row.append(Object.assign(document.createElement("td"), { textContent: number }), Object.assign(document.createElement("td"), { textContent: words }));
+    row.append(...[number, words].map((textContent) => Object.assign(document.createElement("td"), { textContent })));
     return row;
   }));
   showLines();
@@ -62,7 +62,8 @@ function toPlan(way) {
   if (found !== undefined) show(found);
 }
 
-const acts = { first: () => show(0), "last-plan": () => toPlan(-1), back: () => show(step - 1), on: () => show(step + 1), "next-plan": () => toPlan(1), end: () => show(last) };
+const acts = { first: () => show(0), "last-plan": () => toPlan(-1), back: () => show(step - 1),
+  on: () => show(step + 1), "next-plan": () => toPlan(1), end: () => show(last) };
 for (const [id, act] of Object.entries(acts)) part(id).addEventListener("click", () => { pause(); act(); });
 part("play").addEventListener("click", play);
 slider.addEventListener("input", () => { pause(); show(Number(slider.value)); });
@@ -73,7 +74,7 @@ const keys = { ArrowLeft: "back", ArrowRight: "on", ArrowUp: "last-plan", ArrowD
 document.addEventListener("keydown", (event) => {
   // a list or a button in use keeps the keys that it knows itself
   if (event.target.tagName === "SELECT" || event.ctrlKey || event.metaKey || event.altKey) return;
-  if (event.key === " " && !["BUTTON", "INPUT"].includes(event.target.tagName)) play();
+  if (event.key === " " && event.target.tagName !== "BUTTON" && event.target.type !== "checkbox") play();
   else if (event.key in keys) { pause(); acts[keys[event.key]](); }
   else return;
   event.preventDefault();
@@ -84,7 +85,8 @@ map.addEventListener("mousemove", (event) => {
   if (column < 0 || row < 0 || column >= drive.width || row >= drive.height) return;
   const cell = row * drive.width + column, now = after(step);
   const ground = now.known.has(cell) ? "known blocked" : drive.ground[cell] === "#" ? "blocked, not known yet" : "free";
-  part("under").textContent = `cell ${cell} (row ${row}, column ${column}): ${ground}, learned distance ${learnedAfter(now.plans).learned[cell]}`;
+  const learned = learnedAfter(now.plans).learned[cell];
+  part("under").textContent = `cell ${cell} (row ${row}, column ${column}): ${ground}, learned distance ${learned}`;
 });
 
 function sample(holder) {
@@ -97,7 +99,12 @@ function sample(holder) {
     start: () => disc(pen, s / 2, s / 2, s * 0.36, colours.start),
     known: () => { pen.fillStyle = colours.known; pen.fillRect(1, 1, s - 2, s - 2); },
     unknown: () => hatch(pen, 1, 1, s - 2),
-    expanded: () => { pen.fillStyle = colours.expanded; pen.fillRect(1, 1, s - 2, s - 2); pen.fillStyle = colours.dot; pen.fillRect(s * 0.2, s * 0.2, 3, 3); },
+    expanded: () => {
+      pen.fillStyle = colours.expanded;
+      pen.fillRect(1, 1, s - 2, s - 2);
+      pen.fillStyle = colours.dot;
+      pen.fillRect(s * 0.2, s * 0.2, 3, 3);
+    },
     route: () => strokeLine(pen, [[2, s / 2], [s - 2, s / 2]], colours.route, 2.5, [4, 5]),
     driven: () => strokeLine(pen, [[2, s / 2], [s - 2, s / 2]], colours.driven, 2.5, []),
   };

@@ -13,6 +13,7 @@ from .shapes import (
 
 EDGE, TOP, GAP, PANEL = 24, 74, 28, 236
 ASIDE = 0.16
+ABOUT = "Nothing is known at first. The cart sees the four cells beside it, and plans where no route stands."
 # room for the line below the title; the smallest cell that has room for a plan's number
 NARROWEST, NUMBERED = 720, 18
 
@@ -29,12 +30,13 @@ def picture(drive, name):
     below, end = plans.strip(drive, EDGE, end, wide - 2 * EDGE)
     high = end + EDGE
     parts = [
-        f'<svg xmlns="http://www.w3.org/2000/svg" viewBox="0 0 {short(wide)} {short(high)}" width="{short(wide)}" height="{short(high)}" font-family="{FONT}" role="img">',
+        f'<svg xmlns="http://www.w3.org/2000/svg" viewBox="0 0 {short(wide)} {short(high)}"',
+        f' width="{short(wide)}" height="{short(high)}" font-family="{FONT}" role="img">',
         f"<title>{escape(title(drive, name))}</title>",
         DEFINITIONS,
         box(0.5, 0.5, wide - 1, high - 1, PAPER, "#cfcfcf", 8),
         words(EDGE, 36, title(drive, name), 20, bold=True),
-        words(EDGE, 58, "Nothing is known at first. The cart sees the four cells beside it, and plans where no route stands.", 13, QUIET),
+        words(EDGE, 58, ABOUT, 13, QUIET),
         *ground(drive, EDGE, TOP, side), *marks(drive, EDGE, TOP, side), *beside, *key, *below, "</svg>",
     ]
     return "\n".join(part for part in parts if part) + "\n"

@@ -3,10 +3,13 @@ that it expanded for it."""
 
 from . import lane
 from .replay import many
-from .shapes import DRIVEN, HEAT, INK, KNOWN, LINE, PAPER, QUIET, ROUTE, area, box, cross, diamond, disc, outline, short, stroke, words
+from .shapes import (
+    DRIVEN, HEAT, INK, KNOWN, LINE, PAPER, QUIET, ROUTE,
+    area, box, cross, diamond, disc, outline, short, stroke, words,
+)
 
 ENOUGH, GAP, ABOVE, BELOW = 8, 20, 37, 22
-EXPANDED, NOT_KNOWN = HEAT[1][1], "#d4d4d4"
+EXPANDED, NOT_KNOWN = HEAT[1][1], "url(#fine)"
 
 
 def strip(drive, x, y, wide):
@@ -48,8 +51,8 @@ def small(drive, number, told, x, y, side):
     yield words(x, y + 29, f"{answer}, {len(plan.expanded)} expanded", 12.5, QUIET)
     y += ABOVE
     yield '<g shape-rendering="crispEdges">' + box(x, y, plot.width * side, plot.height * side, PAPER)
+    yield area(plot, plan.expanded, x, y, side, EXPANDED)
     yield area(plot, blocked - known, x, y, side, NOT_KNOWN)
-    yield area(plot, plan.expanded, x, y, side, EXPANDED, 0.8)
     yield area(plot, known, x, y, side, KNOWN)
     yield box(x, y, plot.width * side, plot.height * side, "none", "#9a9a9a") + "</g>"
     if len(path) > 1:
@@ -77,6 +80,7 @@ def legend(x, y, wide):
         long = 25 + len(text) * 6.8
         if along + long > wide:
             along, y = 0, y + 22
-        parts.append(f'<g transform="translate({short(along)} {short(y - first)})">{shape}{words(x + 25, first, text, 12, QUIET)}</g>')
+        said = words(x + 25, first, text, 12, QUIET)
+        parts.append(f'<g transform="translate({short(along)} {short(y - first)})">{shape}{said}</g>')
         along += long + 18
     return parts, y

@@ -41,7 +41,8 @@ def older(program, crates):
 
 
 def build(root):
-    print("show: building the proved drive program (rt check drive), which takes some minutes from nothing", file=sys.stderr, flush=True)
+    words = "show: building the proved drive program (rt check drive), which takes some minutes from nothing"
+    print(words, file=sys.stderr, flush=True)
     run_kit(root, "check", "drive")
     if not (root / "target" / "bin" / "drive").exists():
         raise NoProgram("'rt check drive' wrote no target/bin/drive")

@@ -10,11 +10,16 @@ DRIVEN, ROUTE, START, GOAL = "#D55E00", "#0072B2", "#009E73", "#F0E442"
 HEAT = (("1", "#DDEFFB"), ("2", "#B0D9F5"), ("3 to 5", "#79BFEC"), ("6 or more", "#3A96D0"))
 FONT = "system-ui, -apple-system, 'Segoe UI', Helvetica, Arial, 'DejaVu Sans', sans-serif"
 
-# the hatch has nothing between its lines, so that one sees below it whether a cell was expanded
-DEFINITIONS = (
-    '<defs><pattern id="hatch" width="5" height="5" patternUnits="userSpaceOnUse" patternTransform="rotate(45)">'
-    f'<rect width="1.6" height="5" fill="{UNKNOWN}"/></pattern></defs>'
-)
+
+def hatch(name, gap, thick, colour):
+    """A hatch with nothing between its lines, so that one sees below it whether a cell was expanded."""
+    return (
+        f'<pattern id="{name}" width="{gap}" height="{gap}" patternUnits="userSpaceOnUse" patternTransform="rotate(45)">'
+        f'<rect width="{thick}" height="{gap}" fill="{colour}"/></pattern>'
+    )
+
+
+DEFINITIONS = "<defs>" + hatch("hatch", 5, 1.6, UNKNOWN) + hatch("fine", 3, 1.1, "#b4b4b4") + "</defs>"
 
 
 def heat(times):
@@ -35,11 +40,13 @@ def words(x, y, text, size=13, fill=INK, bold=False, anchor="start"):
 def box(x, y, width, height, fill, stroke="none", round_by=0):
     corner = f' rx="{short(round_by)}"' if round_by else ""
     edge = "" if stroke == "none" else f' stroke="{stroke}"'
-    return f'<rect x="{short(x)}" y="{short(y)}" width="{short(width)}" height="{short(height)}"{corner} fill="{fill}"{edge}/>'
+    size = f'width="{short(width)}" height="{short(height)}"'
+    return f'<rect x="{short(x)}" y="{short(y)}" {size}{corner} fill="{fill}"{edge}/>'
 
 
 def disc(x, y, radius, fill, stroke=PAPER, thick=1.5):
-    return f'<circle cx="{short(x)}" cy="{short(y)}" r="{short(radius)}" fill="{fill}" stroke="{stroke}" stroke-width="{short(thick)}"/>'
+    edge = f'stroke="{stroke}" stroke-width="{short(thick)}"'
+    return f'<circle cx="{short(x)}" cy="{short(y)}" r="{short(radius)}" fill="{fill}" {edge}/>'
 
 
 def diamond(x, y, radius):
@@ -50,9 +57,8 @@ def diamond(x, y, radius):
 
 def cross(x, y, radius):
     """The mark of a cart that has no way."""
-    arms = f"M{short(x - radius)} {short(y - radius)}L{short(x + radius)} {short(y + radius)}M{short(x - radius)} {short(y + radius)}L{short(x + radius)} {short(y - radius)}"
-    thick = short(radius / 1.6)
-    return stroke(arms, PAPER, float(thick) + 3) + stroke(arms, INK, float(thick))
+    arms = "".join(outline(((x - radius, y - down), (x + radius, y + down))) for down in (radius, -radius))
+    return stroke(arms, PAPER, radius / 1.6 + 3) + stroke(arms, INK, radius / 1.6)
 
 
 def outline(points):
@@ -61,10 +67,11 @@ def outline(points):
 
 def stroke(path, colour, thick, dashes=""):
     dashed = f' stroke-dasharray="{dashes}"' if dashes else ""
-    return f'<path d="{path}" fill="none" stroke="{colour}" stroke-width="{short(thick)}" stroke-linejoin="round" stroke-linecap="round"{dashed}/>'
+    line = f'stroke="{colour}" stroke-width="{short(thick)}" stroke-linejoin="round" stroke-linecap="round"'
+    return f'<path d="{path}" fill="none" {line}{dashed}/>'
 
 
-def area(plot, cells, x, y, side, fill, opacity=1):
+def area(plot, cells, x, y, side, fill):
     """Whole cells in one fill; those that touch in a row are one piece, so that no seam shows between them."""
     pieces, ordered = [], sorted(cells)
     while ordered:
@@ -74,8 +81,7 @@ def area(plot, cells, x, y, side, fill, opacity=1):
         row, column = plot.place(first)
         wide = short((last - first + 1) * side)
         pieces.append(f"M{short(x + column * side)} {short(y + row * side)}h{wide}v{short(side)}h-{wide}z")
-    through = "" if opacity == 1 else f' fill-opacity="{opacity}"'
-    return f'<path d="{"".join(pieces)}" fill="{fill}"{through}/>' if pieces else ""
+    return f'<path d="{"".join(pieces)}" fill="{fill}"/>' if pieces else ""
 
 
 def grid(plot, x, y, side):

@@ -30,7 +30,8 @@ function manhattan(cell) {
 
 // Everything from the first line on: a drive is short enough for that, and nothing can go stale.
 function after(count) {
-  const now = { count, known: new Set(), path: [drive.start], plan: null, route: [], moves: 0, plans: 0, expanded: 0, reported: null };
+  const now = { count, known: new Set(), path: [drive.start], plan: null, route: [], reported: null,
+    moves: 0, plans: 0, expanded: 0 };
   for (let k = 0; k < count; k++) {
     const words = drive.lines[k].split(" ");
     now.reported = null;
