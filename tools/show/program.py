@@ -44,8 +44,11 @@ def build(root):
     words = "show: building the proved drive program (rt check drive), which takes some minutes from nothing"
     print(words, file=sys.stderr, flush=True)
     run_kit(root, "check", "drive")
-    if not (root / "target" / "bin" / "drive").exists():
+    program = root / "target" / "bin" / "drive"
+    if not program.exists():
         raise NoProgram("'rt check drive' wrote no target/bin/drive")
+    # rt goes by what files hold, and leaves a program that is still right as it was: it is as new as the crates now
+    program.touch()
 
 
 def run_kit(root, *arguments):
