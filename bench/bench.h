@@ -75,6 +75,7 @@ extern const size_t contestant_count;
 // The peers of the proved functions, in C and C++; they check nothing.
 int flags_sound(size_t w, size_t h, size_t goal, size_t cell, const u8 *ground, const u16 *learned, const u8 *link);
 size_t heap_plan(size_t w, size_t h, State *s);
+size_t heap_plan_cleared(size_t w, size_t h, State *s); // the same, over a working space that it clears first
 void codec_read(const u8 *bytes, size_t n, u8 *ground, u16 *learned, u8 *link);
 void codec_write(size_t w, size_t h, size_t goal, size_t cell, const u8 *ground, const u16 *learned, const u8 *link, u8 *bytes);
 
@@ -87,9 +88,14 @@ size_t probe_core(size_t, size_t, size_t, size_t, LENT, SCRATCH, u64 *, size_t, 
 size_t probe_own(size_t, size_t, size_t, size_t, LENT, SCRATCH);
 size_t probe_advance(size_t, size_t, size_t, size_t, const u8 *, size_t, const u16 *, size_t, u8 *, size_t);
 
-u64 ticks(void);
+size_t states_of(const Drive *drive, State *states, size_t room);
+void restore(State *to, const State *s);
+int same_lists(const State *a, const State *b);
+void want(int holds, const char *what); // or the run ends
+
 void measure_drives(size_t plots, size_t rounds);
 void measure_calls(size_t plots, size_t rounds);
+void measure_replans(const char *kind, size_t plot, const State *states, size_t count, size_t rounds);
 
 #ifdef __cplusplus
 }

@@ -1,27 +1,15 @@
 // Runs every contestant over the same logged drives and searches. Once untimed, side by side: every plan length is compared, and
 // between those of document 01's algorithm every list that a plan leaves. Then in rounds, one contestant after the other, timed.
 #include "bench.h"
+#include "timing.h"
 #include <stdio.h>
 #include <stdlib.h>
-#include <string.h>
-#include <time.h>
-
-static u64 nanoseconds(void) {
-    struct timespec t;
-    clock_gettime(CLOCK_MONOTONIC, &t);
-    return (u64)t.tv_sec * 1000000000u + (u64)t.tv_nsec;
-}
-
 static void differ(const Contestant *who, const char *what, const char *kind, size_t plot, size_t plan) {
     fprintf(stderr, "%s: %s differs on %s, plot %zu, plan %zu\n", who->name, what, kind, plot, plan);
     exit(1);
 }
 
-static int same_state(const State *a, const State *b) {
-    return a->cell == b->cell && a->expanded == b->expanded && !memcmp(a->ground, b->ground, CELLS) && !memcmp(a->link, b->link, CELLS)
-        && !memcmp(a->learned, b->learned, sizeof a->learned) && !memcmp(a->mark, b->mark, CELLS)
-        && !memcmp(a->cost, b->cost, sizeof a->cost) && !memcmp(a->trail, b->trail, CELLS);
-}
+static int same_state(const State *a, const State *b) { return a->cell == b->cell && a->expanded == b->expanded && same_lists(a, b); }
 
 static size_t step(const Contestant *who, const Event *e) {
     switch (e->call) {
@@ -30,6 +18,29 @@ static size_t step(const Contestant *who, const Event *e) {
     case MOVE: who->move(e->cell);
     }
     return 0;
+}
+
+// The cells that the timed plans of a drive would expand if nothing were kept from one to the next.
+static size_t expanded_anew(const Drive *d) {
+    static State fresh, s;
+    size_t expanded = 0;
+    size_t goal = d->plot.goal;
+    fresh.goal = goal, fresh.cell = d->plot.start;
+    for (size_t c = 0; c < CELLS; c++) {
+        int rows = (int)(c / WIDTH) - (int)(goal / WIDTH), columns = (int)(c % WIDTH) - (int)(goal % WIDTH);
+        fresh.ground[c] = 0;
+        fresh.learned[c] = (u16)(abs(rows) + abs(columns));
+    }
+    for (size_t k = 0; k < d->count; k++) {
+        const Event *e = &d->events[k];
+        if (e->call == REPORT) fresh.ground[e->cell] = 1;
+        if (e->call == MOVE) fresh.cell = e->cell;
+        if (e->call != PLAN || k < d->before) continue;
+        s = fresh;
+        heap_plan(WIDTH, HEIGHT, &s);
+        expanded += s.expanded;
+    }
+    return expanded;
 }
 
 // Everyone side by side; the cells that the timed plans expand are counted.
@@ -66,6 +77,28 @@ static u64 run(const Contestant *who, const Drive *d, u16 *lengths) {
     return nanoseconds() - t;
 }
 
+// The ticks of its reports, plans and moves apart. (Reading the clock counts for each, so that these are for plans alone.)
+static void split(const Contestant *who, const Drive *d, u64 took[3]) {
+    who->lay_out(WIDTH, HEIGHT, d->plot.start, d->plot.goal);
+    took[REPORT] = took[PLAN] = took[MOVE] = 0;
+    for (size_t k = 0; k < d->count; k++) {
+        u64 since = ticks();
+        step(who, &d->events[k]);
+        took[d->events[k].call] += ticks() - since;
+    }
+}
+
+static void measure_split(const char *kind, size_t plot, const Drive *d, size_t rounds) {
+    for (size_t r = 0; r < rounds; r++)
+        for (size_t i = 0; i < contestant_count; i++) {
+            const Contestant *who = &contestants[(i + r) % contestant_count];
+            u64 took[3];
+            split(who, d, took);
+            printf("plans\t%s\t%zu\t%zu\t%s\t%llu\n", kind, plot, r, who->name, (unsigned long long)took[PLAN]);
+            printf("moves\t%s\t%zu\t%zu\t%s\t%llu\n", kind, plot, r, who->name, (unsigned long long)took[MOVE]);
+        }
+}
+
 static void check_lengths(const Contestant *who, const Drive *d, const u16 *lengths, const char *kind, size_t plot) {
     size_t plan = 0;
     for (size_t k = 0; k < d->count; k++)
@@ -81,7 +114,7 @@ static void measure(const char *what, const char *kind, size_t plot, const Drive
         moves += d->events[k].call == MOVE;
         plans += d->events[k].call == PLAN;
     }
-    printf("%s-has\t%s\t%zu\t%zu\t%zu\t%zu\t%zu\n", what, kind, plot, plans, reports, moves, expanded);
+    printf("%s-has\t%s\t%zu\t%zu\t%zu\t%zu\t%zu\t%zu\n", what, kind, plot, plans, reports, moves, expanded, expanded_anew(d));
     for (size_t r = 0; r < rounds; r++)
         for (size_t i = 0; i < contestant_count; i++) {
             const Contestant *who = &contestants[(i + r) % contestant_count];
@@ -106,6 +139,7 @@ static void drives_of(const Kind *kind, size_t plots, size_t rounds) {
         draw_plot(kind, 48, &plot);
         log_drive(&plot, &d);
         measure("drive", kind->name, p, &d, rounds);
+        measure_split(kind->name, p, &d, (rounds + 1) / 2);
         free_drive(&d);
         log_search(&plot, &d);
         measure("search", kind->name, p, &d, 3 * rounds);

@@ -46,7 +46,7 @@ bool stands(size_t w, size_t n, const State &s) {
 struct Heap {
     u64 keys[CELLS + 3];
     u16 place[CELLS];
-    size_t length = 0;
+    size_t length;
 
     static u64 key(u16 cost, u16 learned, size_t c) { return (u64)(cost + learned) << 32 | (u64)(65535 - cost) << 16 | c; }
     static size_t cell(u64 key) { return key & 65535; }
@@ -105,17 +105,17 @@ size_t learn(size_t w, size_t n, State &s, const u16 *list, size_t stop) {
     return length;
 }
 
-} // namespace
-
-extern "C" size_t heap_plan(size_t w, size_t h, State *state) {
-    State &s = *state;
-    size_t n = w * h;
+// What a search works in beside the lists that it leaves.
+struct Space {
     Heap heap;
     u16 list[CELLS];
     u8 gone[CELLS];
-    s.expanded = 0;
-    if (s.cell == s.goal) return 0;
-    memset(gone, 0, n);
+};
+
+size_t search(size_t w, size_t n, State &s, Space &space) {
+    Heap &heap = space.heap;
+    heap.length = 0;
+    memset(space.gone, 0, n);
     memset(s.mark, 0, n);
     memset(s.trail, 0, n);
     memset(s.cost, 255, 2 * n);
@@ -124,13 +124,27 @@ extern "C" size_t heap_plan(size_t w, size_t h, State *state) {
     heap.add(Heap::key(0, s.learned[s.cell], s.cell));
     while (heap.length) {
         size_t x = Heap::cell(heap.keys[1]);
-        if (leads(w, n, s, gone, x)) return learn(w, n, s, list, x);
+        if (leads(w, n, s, space.gone, x)) return learn(w, n, s, space.list, x);
         s.mark[x] = 2;
-        list[s.expanded++] = (u16)x;
+        space.list[s.expanded++] = (u16)x;
         heap.drop_first();
         expand(w, n, s, heap, x);
     }
     return NO_WAY;
+}
+
+} // namespace
+
+extern "C" size_t heap_plan(size_t w, size_t h, State *s) {
+    Space space;
+    s->expanded = 0;
+    return s->cell == s->goal ? 0 : search(w, w * h, *s, space);
+}
+
+extern "C" size_t heap_plan_cleared(size_t w, size_t h, State *s) {
+    Space space{};
+    s->expanded = 0;
+    return s->cell == s->goal ? 0 : search(w, w * h, *s, space);
 }
 
 extern "C" void adaptive_lay_out(size_t w, size_t h, size_t start, size_t goal) {

@@ -44,17 +44,20 @@ def lines(path):
 class Figures:
     def __init__(self, folder):
         self.about = dict(lines(f"{folder}/about.tsv"))
-        self.times = {"drive": {}, "search": {}}  # kind -> (plot, round) -> contestant -> nanoseconds
-        self.has = {"drive": {}, "search": {}}  # kind -> plots' plans, reports, moves, cells expanded
-        self.calls = collections.OrderedDict()  # kind -> rounds' ticks of each work
+        # what -> kind -> (plot, round) -> contestant -> time; "plans" and "moves" are those parts of a drive, apart
+        self.times = collections.defaultdict(dict)
+        # what -> kind -> for each plot: plans, reports, moves, cells expanded, cells expanded if all were planned anew
+        self.has = collections.defaultdict(dict)
+        # what -> kind -> (plot, round) -> work -> ticks; "call", "replan", and "repeated": the least of many on one state
+        self.works = collections.defaultdict(dict)
         for fields in lines(f"{folder}/figures.tsv"):
             self.take(*fields)
 
     def take(self, what, kind, plot, *rest):
-        if what == "call":
+        if what in ("call", "replan", "repeated"):
             ticks = dict(field.split("=") for field in rest[2:])
             ticks = {work: int(t) / int(rest[1]) for work, t in ticks.items()}
-            self.calls.setdefault(kind, []).append(ticks)
+            self.works[what].setdefault(kind, []).append(ticks)
         elif what.endswith("-has"):
             self.has[what[:-4]].setdefault(kind, []).append([int(x) for x in rest])
         else:
@@ -78,9 +81,9 @@ class Figures:
     def mean(self, what, kind, k):
         return statistics.mean(row[k] for row in self.has[what][kind])
 
-    def call_ratio(self, kind, top, bottom):
-        """The ratio of two sums of works, for each round."""
-        return Spread(sum(r[w] for w in top) / sum(r[w] for w in bottom) for r in self.calls[kind])
+    def work_ratio(self, what, kind, top, bottom):
+        """The ratio of a work to a sum of works, for each round."""
+        return Spread(r[top] / sum(r[w] for w in bottom) for r in self.works[what][kind])
 
-    def call_ticks(self, kind, work):
-        return statistics.median(r[work] for r in self.calls[kind])
+    def work_ticks(self, what, kind, work):
+        return statistics.median(r[work] for r in self.works[what][kind])

@@ -13,11 +13,11 @@ STYLE = {
     "tcod": ("#CC79A7", "down"),
     "boost": ("#D55E00", "cross"),
 }
-LEFT, WIDE, ROW, TOP = 150, 640, 30, 92
+LEFT, WIDE, ROW, TOP = 150, 640, 34, 112
 
 
 def mark(shape, x, y, colour):
-    r = 5
+    r = 4
     points = {
         "square": [(-r, -r), (r, -r), (r, r), (-r, r)],
         "up": [(0, -r - 1), (r + 1, r), (-r - 1, r)],
@@ -63,10 +63,12 @@ def panel(figures, what, title, top, scale, names):
     yield from scale.lines(top, bottom)
     for k, kind in enumerate(kinds):
         y = top + 10 + ROW * (k + 0.5)
+        if k % 2 == 0:
+            yield f'<rect x="10" y="{y - ROW / 2:.1f}" width="{LEFT + WIDE - 10}" height="{ROW}" fill="#000000" fill-opacity="0.045"/>'
         yield text(LEFT - 12, y + 4, kind.replace("&", "&amp;"), "end")
         for i, who in enumerate(names):
             s, (colour, shape) = figures.ratio(what, kind, who), STYLE[who]
-            v = y + (i - (len(names) - 1) / 2) * 3
+            v = y + (i - (len(names) - 1) / 2) * 4.6
             yield f'<line x1="{scale.at(s.low):.1f}" y1="{v:.1f}" x2="{scale.at(s.high):.1f}" y2="{v:.1f}" stroke="{colour}" stroke-width="2"/>'
             yield mark(shape, scale.at(s.middle), v, colour)
 

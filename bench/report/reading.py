@@ -2,41 +2,40 @@
 
 from figures import NAMES, short
 
-SIX = ["random 10 %", "random 25 %", "random 40 %", "rooms", "maze", "maze, 5 % opened", "nursery rows"]
+
+def plots(figures):
+    """The kinds that the bounds are over: all but the serpentine, which has one of its own."""
+    return [kind for kind in figures.works["call"] if not kind.startswith("serpentine")]
 
 
-def span(figures, top, bottom, kinds=SIX):
-    """The least and the greatest median over kinds, and the kinds that have them."""
-    found = sorted((figures.call_ratio(k, top, bottom).middle, k) for k in kinds if k in figures.calls)
-    return found[0], found[-1]
-
-
-def verdict(name, figures, top, bottom, bound, kinds=SIX):
-    (low, _), (high, worst) = span(figures, top, bottom, kinds)
-    met = "met" if high <= bound else f"**not met** on {worst}"
+def verdict(name, figures, what, top, bottom, bound):
+    found = sorted((figures.work_ratio(what, k, top, bottom).middle, k) for k in plots(figures))
+    (low, _), (high, _) = found[0], found[-1]
+    over = [kind for ratio, kind in found if ratio > bound]
+    met = "met" if not over else "**not met** on " + ", ".join(over)
     return f"- {name}: {short(low)} to {short(high)}; bound {bound:g}: {met}."
 
 
 def serpentine(figures):
-    cut, whole = figures.call_ticks("serpentine, cut", "core"), figures.call_ticks("serpentine", "core")
-    own = figures.call_ticks("serpentine, cut", "own") / figures.call_ticks("serpentine", "own")
-    met = "met" if max(cut / whole, own) <= 3 else "**not met**"
-    return f"- Serpentine cut just before the goal, to the uncut one: {short(cut / whole)} (space lent), {short(own)} (its own); bound 3: {met}."
+    def ratio(work):
+        return figures.work_ticks("replan", "serpentine, cut", work) / figures.work_ticks("replan", "serpentine", work)
+
+    lent, own = ratio("core"), ratio("own")
+    met = "met" if max(lent, own) <= 3 else "**not met**"
+    return f"- Serpentine cut just before the goal, to the uncut one: {short(lent)} with the space lent, {short(own)} with its own; bound 3: {met}."
 
 
 def verdicts(figures):
-    records = ["sound", "core", "codec"]
-    return "\n".join(
-        [
-            verdict("Soundness test, to the C flags", figures, ["sound"], ["flags"], 1),
-            verdict("Replan without the test, working space lent, to the C++ heap", figures, ["core"], ["heap"], 1.3),
-            verdict("Replan without the test, working space its own, to the C++ heap", figures, ["own"], ["heap"], 1.3),
-            serpentine(figures),
-            verdict("Plan over a record, to test, core and codec in C", figures, ["record-plan"], records, 2),
-            verdict("Report over a record, to test and codec in C", figures, ["record-report"], ["sound", "codec"], 2),
-            verdict("Move over a record, to test and codec in C", figures, ["record-move"], ["sound", "codec"], 2),
-        ]
-    )
+    found = [verdict("Soundness test, to the C flags", figures, "call", "sound", ["flags"], 1)]
+    for work, space in (("core", "lent"), ("own", "its own")):
+        for what, how in (("replan", "in passing"), ("repeated", "repeated on each state")):
+            name = f"Replan without the test, working space {space}, {how}, to the C++ heap"
+            found.append(verdict(name, figures, what, work, ["heap"], 1.3))
+    found.append(serpentine(figures))
+    for call, core in (("plan", "core"), ("report", "block"), ("move", "advance")):
+        name = f"The call {call} over a record, to the sum of test, core and codec in C"
+        found.append(verdict(name, figures, "call", f"record-{call}", ["sound", core, "codec"], 2))
+    return "\n".join(found)
 
 
 def winners(figures, what, against):
@@ -45,29 +44,40 @@ def winners(figures, what, against):
     for who in figures.contestants():
         if who in ("call", "core"):
             continue
-        won = [(k, figures.ratio(what, k, who, against).middle) for k in figures.kinds(what)]
-        won = [f"{k} ({short(r)})" for k, r in won if r < 1]
-        every = len(won) == len(figures.kinds(what))
-        listed = "on every plot: " + ", ".join(won) if every else "on " + ", ".join(won) if won else "on no plot"
-        out.append(f"- {NAMES[who]}: {listed}.")
+        ratios = [(k, figures.ratio(what, k, who, against).middle) for k in figures.kinds(what)]
+        won = [f"{k} ({short(r)})" for k, r in ratios if r < 1]
+        where = "every plot: " if len(won) == len(ratios) else ""
+        out.append(f"- {NAMES[who]}: {where}{', '.join(won) if won else 'nowhere'}.")
     return "\n".join(out)
 
 
 def scale(figures):
     kind = "random 25 %"
-    call, core = figures.microseconds("drive", kind, "call"), figures.microseconds("drive", kind, "core")
-    plans, reports, moves = (figures.mean("drive", kind, k) for k in range(3))
-    calls = plans + reports + moves
+    call, core = (figures.microseconds("drive", kind, who) for who in ("call", "core"))
+    calls = sum(figures.mean("drive", kind, k) for k in range(3))
     return (
-        f"For scale, on this machine: a drive on {kind} is {calls:.0f} calls, and takes {call:,.0f} µs with the test in each call "
-        f"({call / calls:.1f} µs a call) and {core:,.0f} µs by the cores."
+        f"For scale, on this machine: a drive on {kind} is {calls:.0f} calls, and takes some {call:,.0f} µs with the test in each call, "
+        f"{call / calls:.1f} µs a call, and some {core:,.0f} µs by the cores."
     )
 
 
-def share(figures):
-    """How much of a call is the test: of plan, in the states of the drives."""
-    parts = [figures.call_ticks(k, "sound") / figures.call_ticks(k, "call") for k in SIX if k in figures.calls]
+def span(parts):
     return f"{100 * min(parts):.0f} to {100 * max(parts):.0f} %"
+
+
+def test_share(figures):
+    """How much of plan's call is the test."""
+    return span([figures.work_ticks("call", k, "sound") / figures.work_ticks("call", k, "call") for k in plots(figures)])
+
+
+def walk_share(figures):
+    """How much of the C++ heap's drive are its moves, which ask whether the route stands."""
+
+    def total(what, kind):
+        return sum(r["adaptive"] for r in figures.times[what][kind].values())
+
+    parts = [(total("moves", k), total("plans", k)) for k in figures.kinds("drive")]
+    return span([moves / (moves + plans) for moves, plans in parts])
 
 
 def sentences(figures):
@@ -75,8 +85,10 @@ def sentences(figures):
         "verdicts": verdicts(figures),
         "drives-call": winners(figures, "drive", "call"),
         "drives-core": winners(figures, "drive", "core"),
+        "plans-core": winners(figures, "plans", "core"),
         "searches-call": winners(figures, "search", "call"),
         "searches-core": winners(figures, "search", "core"),
         "scale": scale(figures),
-        "share": share(figures),
+        "test-share": test_share(figures),
+        "walk-share": walk_share(figures),
     }

@@ -5,35 +5,45 @@ import sys
 
 import plot
 import reading
-from figures import BASE, NAMES, Figures, Spread, short
-
-SPACE = ["sound", "core", "codec"]
-
+from figures import BASE, NAMES, Figures
 
 def table(head, rows):
     return "\n".join(["| " + " | ".join(row) + " |" for row in [head, ["---"] * len(head), *rows]])
 
 
-def times_table(figures, what):
+def times_table(figures, what, has):
+    """Times of everyone; `has` names the drives or searches that they are of."""
     others = [who for who in figures.contestants() if who != BASE]
-    head = ["Plot", "Plans", "Cells expanded a plan"] + [NAMES[who] for who in others]
+    head = ["Plot", "Plans", "Cells expanded a plan", "anew"] + [NAMES[who] for who in others]
     rows = []
     for kind in figures.kinds(what):
-        plans, expanded = figures.mean(what, kind, 0), figures.mean(what, kind, 3)
-        row = [kind, f"{plans:.0f}", f"{expanded / plans:.0f}"]
+        plans, kept, anew = (figures.mean(has, kind, k) for k in (0, 3, 4))
+        row = [kind, f"{plans:.0f}", f"{kept / plans:,.0f}", f"{anew / plans:,.0f}"]
         rows.append(row + [str(figures.ratio(what, kind, who)) for who in others])
     return table(head, rows)
 
 
-def bounds_table(figures):
-    head = ["Plot", "Soundness test (1)", "Core, space lent (1.3)", "Core, space its own (1.3)", "Call plan"]
-    head += ["Record: plan (2)", "Record: report (2)", "Record: move (2)"]
+def works_table(figures, columns):
+    """Columns are (title, what, work, the works that it is compared with)."""
     rows = []
-    for kind in figures.calls:
-        works = [("sound", ["flags"]), ("core", ["heap"]), ("own", ["heap"]), ("call", ["heap"])]
-        works += [("record-plan", SPACE), ("record-report", ["sound", "codec"]), ("record-move", ["sound", "codec"])]
-        rows.append([kind] + [str(figures.call_ratio(kind, [top], bottom)) for top, bottom in works])
-    return table(head, rows)
+    for kind in figures.works["call"]:
+        rows.append([kind] + [str(figures.work_ratio(what, kind, top, bottom)) for _, what, top, bottom in columns])
+    return table(["Plot"] + [column[0] for column in columns], rows)
+
+
+REPLANS = [
+    ("Soundness test (1)", "call", "sound", ["flags"]),
+    ("Core, space lent (1.3)", "replan", "core", ["heap"]),
+    ("the same, repeated", "repeated", "core", ["heap"]),
+    ("Core, space its own (1.3)", "replan", "own", ["heap"]),
+    ("the same, repeated", "repeated", "own", ["heap"]),
+    ("the same, to a C++ heap that clears too", "repeated", "own", ["cleared"]),
+]
+RECORDS = [
+    ("Plan (2)", "call", "record-plan", ["sound", "core", "codec"]),
+    ("Report (2)", "call", "record-report", ["sound", "block", "codec"]),
+    ("Move (2)", "call", "record-move", ["sound", "advance", "codec"]),
+]
 
 
 def how(figures):
@@ -60,12 +70,14 @@ def main(work, template, docs):
     figures = Figures(work)
     parts = {
         "how": how(figures),
-        "drives": times_table(figures, "drive"),
-        "searches": times_table(figures, "search"),
-        "bounds": bounds_table(figures),
+        "drives": times_table(figures, "drive", "drive"),
+        "plans": times_table(figures, "plans", "drive"),
+        "searches": times_table(figures, "search", "search"),
+        "replans": works_table(figures, REPLANS),
+        "records": works_table(figures, RECORDS),
         **reading.sentences(figures),
     }
-    for name in ("how", "drives", "searches", "bounds"):
+    for name in ("how", "drives", "plans", "searches", "replans", "records"):
         print(parts[name] + "\n")
     print(parts["verdicts"])
     with open(template, encoding="utf-8") as f:
