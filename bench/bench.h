@@ -9,7 +9,7 @@ typedef uint8_t u8;
 typedef uint16_t u16;
 typedef uint64_t u64;
 
-enum { WIDTH = 64, HEIGHT = 64, CELLS = WIDTH * HEIGHT, NO_WAY = 65535, RECORD = 12827 };
+enum { WIDTH = 64, HEIGHT = 64, CELLS = WIDTH * HEIGHT, NO_WAY = 65535, RECORD = 12827, MOST_STATES = 100 };
 
 #ifdef __cplusplus
 extern "C" {

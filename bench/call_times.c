@@ -71,14 +71,19 @@ static void records(const State *s, size_t length) {
     want(p == SALENDURO_NO_WAY || m < CELLS, "a move over a record");
 }
 
+// Three passes over the states, of which a state's median counts.
 static void round_of(const char *kind, size_t plot, size_t round, const State *states, size_t count) {
+    static u64 passes[3][MOST_STATES][WORKS];
     u64 sum[WORKS] = {0};
-    for (size_t i = 0; i < count; i++) {
-        size_t length = plans(&states[i]);
-        soundness(&states[i]);
-        records(&states[i], length);
-        for (int w = 0; w < WORKS; w++) sum[w] += took[w];
-    }
+    for (int pass = 0; pass < 3; pass++)
+        for (size_t i = 0; i < count; i++) {
+            size_t length = plans(&states[i]);
+            soundness(&states[i]);
+            records(&states[i], length);
+            memcpy(passes[pass][i], took, sizeof took);
+        }
+    for (size_t i = 0; i < count; i++)
+        for (int w = 0; w < WORKS; w++) sum[w] += median3(passes[0][i][w], passes[1][i][w], passes[2][i][w]);
     printf("call\t%s\t%zu\t%zu\t%zu", kind, plot, round, count);
     for (int w = 0; w < WORKS; w++) printf("\t%s=%llu", works[w], (unsigned long long)sum[w]);
     printf("\n");
@@ -86,9 +91,8 @@ static void round_of(const char *kind, size_t plot, size_t round, const State *s
 
 // The same states for single calls and for replans.
 static void measure(const char *kind, size_t plot, Drive *d, size_t rounds) {
-    enum { MOST = 100 };
-    static State states[MOST];
-    size_t count = states_of(d, states, MOST);
+    static State states[MOST_STATES];
+    size_t count = states_of(d, states, MOST_STATES);
     for (size_t r = 0; r < rounds; r++) round_of(kind, plot, r, states, count);
     measure_replans(kind, plot, states, count, rounds);
     free_drive(d);
@@ -101,11 +105,11 @@ void measure_calls(size_t plots, size_t rounds) {
         for (size_t p = 0; p < plots; p++) {
             draw_plot(&kinds[k], 48, &plot);
             log_drive(&plot, &d);
-            measure(kinds[k].name, p, &d, rounds);
+            measure(kinds[k].name, p, &d, (rounds + 2) / 3);
         }
     serpentine(&plot);
     log_search(&plot, &d);
-    measure("serpentine", 0, &d, 6 * rounds);
+    measure("serpentine", 0, &d, 2 * rounds);
     log_cut(&plot, plot.goal + 1, &d);
-    measure("serpentine, cut", 0, &d, 6 * rounds);
+    measure("serpentine, cut", 0, &d, 2 * rounds);
 }

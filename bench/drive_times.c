@@ -77,25 +77,34 @@ static u64 run(const Contestant *who, const Drive *d, u16 *lengths) {
     return nanoseconds() - t;
 }
 
-// The ticks of its reports, plans and moves apart. (Reading the clock counts for each, so that these are for plans alone.)
-static void split(const Contestant *who, const Drive *d, u64 took[3]) {
+// The ticks of each call of a drive. (Reading the clock counts in each, so that these are for plans, and for moves that walk.)
+static void tick_calls(const Contestant *who, const Drive *d, u64 *took) {
     who->lay_out(WIDTH, HEIGHT, d->plot.start, d->plot.goal);
-    took[REPORT] = took[PLAN] = took[MOVE] = 0;
     for (size_t k = 0; k < d->count; k++) {
         u64 since = ticks();
         step(who, &d->events[k]);
-        took[d->events[k].call] += ticks() - since;
+        took[k] = ticks() - since;
     }
+}
+
+// Its reports, plans and moves apart: each call the median of three passes.
+static void split(const Contestant *who, const Drive *d, u64 sum[3]) {
+    u64 *took = malloc(3 * d->count * sizeof *took), *second = took + d->count, *third = second + d->count;
+    if (!took) abort();
+    for (int pass = 0; pass < 3; pass++) tick_calls(who, d, took + pass * d->count);
+    sum[REPORT] = sum[PLAN] = sum[MOVE] = 0;
+    for (size_t k = 0; k < d->count; k++) sum[d->events[k].call] += median3(took[k], second[k], third[k]);
+    free(took);
 }
 
 static void measure_split(const char *kind, size_t plot, const Drive *d, size_t rounds) {
     for (size_t r = 0; r < rounds; r++)
         for (size_t i = 0; i < contestant_count; i++) {
             const Contestant *who = &contestants[(i + r) % contestant_count];
-            u64 took[3];
-            split(who, d, took);
-            printf("plans\t%s\t%zu\t%zu\t%s\t%llu\n", kind, plot, r, who->name, (unsigned long long)took[PLAN]);
-            printf("moves\t%s\t%zu\t%zu\t%s\t%llu\n", kind, plot, r, who->name, (unsigned long long)took[MOVE]);
+            u64 sum[3];
+            split(who, d, sum);
+            printf("plans\t%s\t%zu\t%zu\t%s\t%llu\n", kind, plot, r, who->name, (unsigned long long)sum[PLAN]);
+            printf("moves\t%s\t%zu\t%zu\t%s\t%llu\n", kind, plot, r, who->name, (unsigned long long)sum[MOVE]);
         }
 }
 
@@ -139,7 +148,7 @@ static void drives_of(const Kind *kind, size_t plots, size_t rounds) {
         draw_plot(kind, 48, &plot);
         log_drive(&plot, &d);
         measure("drive", kind->name, p, &d, rounds);
-        measure_split(kind->name, p, &d, (rounds + 1) / 2);
+        measure_split(kind->name, p, &d, (rounds + 2) / 3);
         free_drive(&d);
         log_search(&plot, &d);
         measure("search", kind->name, p, &d, 3 * rounds);

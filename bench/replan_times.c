@@ -32,16 +32,20 @@ static u64 replan(int work, const State *from, size_t *length) {
     return took;
 }
 
+// Each over all states by itself, three passes, of which a state's median counts.
 static void in_passing(const State *states, size_t count, size_t round, u64 sum[WORKS]) {
+    static u64 took[3][MOST_STATES];
     size_t lengths[WORKS];
     for (size_t k = 0; k < WORKS; k++) {
         int w = (int)((k + round) % WORKS);
         sum[w] = lengths[w] = 0;
-        for (size_t i = 0; i < count; i++) {
-            size_t length = 0;
-            sum[w] += replan(w, &states[i], &length);
-            lengths[w] += length;
-        }
+        for (int pass = 0; pass < 3; pass++)
+            for (size_t i = 0; i < count; i++) {
+                size_t length = 0;
+                took[pass][i] = replan(w, &states[i], &length);
+                lengths[w] += length;
+            }
+        for (size_t i = 0; i < count; i++) sum[w] += median3(took[0][i], took[1][i], took[2][i]);
     }
     for (int w = 0; w < WORKS; w++) want(lengths[w] == lengths[HEAP], works[w]);
 }
@@ -73,7 +77,7 @@ void measure_replans(const char *kind, size_t plot, const State *states, size_t 
         in_passing(states, count, r, sum);
         print("replan", kind, plot, r, count, sum);
     }
-    for (size_t r = 0; r < (rounds + 2) / 3; r++) {
+    for (size_t r = 0; r < rounds; r++) {
         u64 sum[WORKS] = {0};
         for (size_t i = 0; i < count; i++) repeat(&states[i], sum);
         print("repeated", kind, plot, r, count, sum);

@@ -26,6 +26,12 @@ static inline uint64_t ticks(void) {
 #endif
 }
 
+// Of three passes over the same work, so that one that was interrupted does not count.
+static inline uint64_t median3(uint64_t a, uint64_t b, uint64_t c) {
+    uint64_t low = a < b ? a : b, high = a < b ? b : a;
+    return c < low ? low : c > high ? high : c;
+}
+
 // Evaluates the expression into answer, and its ticks into took.
 #define TIME(took, answer, expression) \
     do {                               \
