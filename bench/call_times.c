@@ -90,12 +90,26 @@ static void round_of(const char *kind, size_t plot, size_t round, const State *s
 }
 
 // The same states for single calls and for replans.
-static void measure(const char *kind, size_t plot, Drive *d, size_t rounds) {
+static void measure(const char *kind, size_t plot, const Drive *d, size_t rounds) {
     static State states[MOST_STATES];
     size_t count = states_of(d, states, MOST_STATES);
     for (size_t r = 0; r < rounds; r++) round_of(kind, plot, r, states, count);
     measure_replans(kind, plot, states, count, rounds);
-    free_drive(d);
+}
+
+// In turn, for the one is compared with the other.
+static void serpentines(size_t rounds) {
+    static Plot plot;
+    Drive whole, cut;
+    serpentine(&plot);
+    log_search(&plot, &whole);
+    log_cut(&plot, plot.goal + 1, &cut);
+    for (size_t r = 0; r < rounds; r++) {
+        measure("serpentine", r, &whole, 1);
+        measure("serpentine, cut", r, &cut, 1);
+    }
+    free_drive(&whole);
+    free_drive(&cut);
 }
 
 void measure_calls(size_t plots, size_t rounds) {
@@ -106,10 +120,7 @@ void measure_calls(size_t plots, size_t rounds) {
             draw_plot(&kinds[k], 48, &plot);
             log_drive(&plot, &d);
             measure(kinds[k].name, p, &d, (rounds + 2) / 3);
+            free_drive(&d);
         }
-    serpentine(&plot);
-    log_search(&plot, &d);
-    measure("serpentine", 0, &d, 2 * rounds);
-    log_cut(&plot, plot.goal + 1, &d);
-    measure("serpentine, cut", 0, &d, 2 * rounds);
+    serpentines(2 * rounds);
 }

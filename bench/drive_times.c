@@ -43,9 +43,17 @@ static size_t expanded_anew(const Drive *d) {
     return expanded;
 }
 
-// Everyone side by side; the cells that the timed plans expand are counted.
-static size_t compare(const Drive *d, const char *kind, size_t plot) {
-    size_t plan = 0, expanded = 0;
+static size_t waiting(const State *s) {
+    size_t count = 0;
+    for (size_t c = 0; c < CELLS; c++) count += s->mark[c] == 1;
+    return count;
+}
+
+// Everyone side by side. Counted are the cells that the timed plans expand, and the most that waited when a plan ended.
+static void compare(const Drive *d, const char *kind, size_t plot, size_t *expanded, size_t *most) {
+    const Contestant *first = &contestants[0];
+    size_t plan = 0;
+    *expanded = *most = 0;
     for (size_t i = 0; i < contestant_count; i++) contestants[i].lay_out(WIDTH, HEIGHT, d->plot.start, d->plot.goal);
     for (size_t k = 0; k < d->count; k++) {
         const Event *e = &d->events[k];
@@ -53,13 +61,14 @@ static size_t compare(const Drive *d, const char *kind, size_t plot) {
             const Contestant *who = &contestants[i];
             size_t length = step(who, e);
             if (e->call == PLAN && length != e->cell) differ(who, "a plan length", kind, plot, plan);
-            if (e->call == PLAN && who->state && !same_state(who->state(), contestants[0].state())) differ(who, "a list", kind, plot, plan);
+            if (e->call == PLAN && who->state && !same_state(who->state(), first->state())) differ(who, "a list", kind, plot, plan);
             if (e->call == MOVE && who->state && who->state()->cell != e->cell) differ(who, "a move", kind, plot, plan);
         }
-        plan += e->call == PLAN;
-        if (e->call == PLAN && k >= d->before) expanded += contestants[0].state()->expanded;
+        if (e->call != PLAN) continue;
+        plan++;
+        if (k >= d->before) *expanded += first->state()->expanded;
+        if (waiting(first->state()) > *most) *most = waiting(first->state());
     }
-    return expanded;
 }
 
 static u64 run(const Contestant *who, const Drive *d, u16 *lengths) {
@@ -117,13 +126,14 @@ static void check_lengths(const Contestant *who, const Drive *d, const u16 *leng
 // A line on the drive, and one for each round and contestant. The one who begins a round goes round too.
 static void measure(const char *what, const char *kind, size_t plot, const Drive *d, size_t rounds) {
     u16 *lengths = malloc((d->plans + 1) * sizeof *lengths);
-    size_t reports = 0, moves = 0, plans = 0, expanded = compare(d, kind, plot);
+    size_t reports = 0, moves = 0, plans = 0, expanded, most;
+    compare(d, kind, plot, &expanded, &most);
     for (size_t k = d->before; k < d->count; k++) {
         reports += d->events[k].call == REPORT;
         moves += d->events[k].call == MOVE;
         plans += d->events[k].call == PLAN;
     }
-    printf("%s-has\t%s\t%zu\t%zu\t%zu\t%zu\t%zu\t%zu\n", what, kind, plot, plans, reports, moves, expanded, expanded_anew(d));
+    printf("%s-has\t%s\t%zu\t%zu\t%zu\t%zu\t%zu\t%zu\t%zu\n", what, kind, plot, plans, reports, moves, expanded, expanded_anew(d), most);
     for (size_t r = 0; r < rounds; r++)
         for (size_t i = 0; i < contestant_count; i++) {
             const Contestant *who = &contestants[(i + r) % contestant_count];

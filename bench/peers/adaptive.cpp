@@ -9,6 +9,9 @@ namespace {
 State drive;
 size_t width, height;
 
+// (by 32 bits: many processors divide 64 at half the speed, and gcc does not look whether 32 would do)
+size_t column(size_t c, size_t w) { return (uint32_t)c % (uint32_t)w; }
+
 size_t beside_in(size_t w, size_t n, size_t c, size_t col, int d) {
     switch (d) {
     case 1: return col + 1 < w ? c + 1 : n;
@@ -25,7 +28,7 @@ bool leads(size_t w, size_t n, const State &s, u8 *gone, size_t c) {
     while (c != s.goal) {
         if (left == 0 || gone[c]) return false;
         gone[c] = 1;
-        size_t x = beside_in(w, n, c, c % w, s.link[c]);
+        size_t x = beside_in(w, n, c, column(c, w), s.link[c]);
         if (x >= n || s.learned[x] != left - 1) return false;
         c = x;
         left--;
@@ -36,7 +39,7 @@ bool leads(size_t w, size_t n, const State &s, u8 *gone, size_t c) {
 bool stands(size_t w, size_t n, const State &s) {
     size_t c = s.cell;
     for (u16 left = s.learned[c]; c != s.goal; left--) {
-        size_t x = beside_in(w, n, c, c % w, s.link[c]);
+        size_t x = beside_in(w, n, c, column(c, w), s.link[c]);
         if (left == 0 || x >= n || s.learned[x] != left - 1) return false;
         c = x;
     }
@@ -63,16 +66,16 @@ struct Heap {
 
     void add(u64 v) { rise(++length, v); }
 
+    // (a last key that is greater than all stands for the second child that may be missing)
     void drop_first() {
-        u64 v = keys[length--];
+        u64 v = keys[length];
+        keys[length--] = UINT64_MAX;
         if (!length) return;
         size_t i = 1;
-        while (2 * i <= length) {
-            size_t k = 2 * i;
-            if (k + 1 <= length && keys[k + 1] < keys[k]) k++;
+        for (size_t k; (k = 2 * i) <= length; i = k) {
+            k += keys[k + 1] < keys[k];
             if (v <= keys[k]) break;
             put(i, keys[k]);
-            i = k;
         }
         put(i, v);
     }
@@ -80,7 +83,7 @@ struct Heap {
 
 void expand(size_t w, size_t n, State &s, Heap &heap, size_t x) {
     u16 cost = s.cost[x] + 1;
-    size_t col = x % w;
+    size_t col = column(x, w);
     for (int d = 1; d <= 4; d++) {
         size_t y = beside_in(w, n, x, col, d);
         if (y >= n || s.ground[y] || cost >= s.cost[y]) continue;
@@ -99,7 +102,7 @@ size_t learn(size_t w, size_t n, State &s, const u16 *list, size_t stop) {
     for (size_t i = 0; i < s.expanded; i++) s.learned[list[i]] = (u16)(length - s.cost[list[i]]);
     for (size_t v = s.cost[stop]; v; v--) {
         int d = s.trail[at];
-        at = beside_in(w, n, at, at % w, d <= 2 ? d + 2 : d - 2);
+        at = beside_in(w, n, at, column(at, w), d <= 2 ? d + 2 : d - 2);
         s.link[at] = (u8)d;
     }
     return length;
@@ -161,7 +164,7 @@ extern "C" void adaptive_report(size_t c) {
     drive.ground[c] = 1;
     drive.link[c] = 0;
     for (int d = 1; d <= 4; d++) {
-        size_t y = beside_in(width, n, c, c % width, d);
+        size_t y = beside_in(width, n, c, column(c, width), d);
         if (y < n && drive.link[y] == (d <= 2 ? d + 2 : d - 2)) drive.link[y] = 0;
     }
 }
@@ -172,7 +175,7 @@ extern "C" size_t adaptive_plan() { return heap_plan(width, height, &drive); }
 extern "C" void adaptive_move(size_t) {
     size_t n = width * height, at = drive.cell;
     if (!stands(width, n, drive)) return;
-    drive.cell = beside_in(width, n, at, at % width, drive.link[at]);
+    drive.cell = beside_in(width, n, at, column(at, width), drive.link[at]);
     drive.link[at] = 0;
 }
 

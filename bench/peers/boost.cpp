@@ -31,7 +31,7 @@ private:
     int direction = 5;
 
     bool free_there() {
-        size_t w = grid->width, column = cell % w;
+        size_t w = grid->width, column = (uint32_t)cell % (uint32_t)w;
         bool inside = false;
         switch (direction) {
         case 1: inside = column + 1 < w, to = cell + 1; break;

@@ -13,7 +13,8 @@ size_t width, cells, cart, goal, last, km;
 u8 ground[CELLS], row[CELLS], column[CELLS];
 u16 g[CELLS], rhs[CELLS];
 
-// The queue: keys of the two numbers of D* Lite and the cell, and where each cell stands in it, or 0.
+// The queue: keys of the two numbers of D* Lite and the cell, and where each cell stands in it, or 0. Behind its last key all are
+// greater than any, and stand for the second child that may be missing.
 u64 keys[CELLS + 2];
 u16 place[CELLS];
 size_t length;
@@ -30,7 +31,7 @@ void put(size_t i, u64 v) {
 void settle(size_t i, u64 v) {
     for (; i > 1 && v < keys[i / 2]; i /= 2) put(i, keys[i / 2]);
     for (size_t k; (k = 2 * i) <= length; i = k) {
-        if (k < length && keys[k + 1] < keys[k]) k++;
+        k += keys[k + 1] < keys[k];
         if (v <= keys[k]) break;
         put(i, keys[k]);
     }
@@ -40,7 +41,8 @@ void settle(size_t i, u64 v) {
 void remove(size_t c) {
     size_t i = place[c];
     place[c] = 0;
-    u64 v = keys[length--];
+    u64 v = keys[length];
+    keys[length--] = UINT64_MAX;
     if (i <= length) settle(i, v);
 }
 
@@ -102,6 +104,7 @@ void raise(size_t u) {
 extern "C" void dstar_lay_out(size_t w, size_t h, size_t start, size_t to) {
     width = w, cells = w * h, cart = last = start, goal = to, km = 0, length = 0;
     memset(ground, 0, sizeof ground);
+    memset(keys, 255, sizeof keys);
     memset(place, 0, sizeof place);
     memset(g, 255, sizeof g);
     memset(rhs, 255, sizeof rhs);

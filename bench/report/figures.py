@@ -46,7 +46,7 @@ class Figures:
         self.about = dict(lines(f"{folder}/about.tsv"))
         # what -> kind -> (plot, round) -> contestant -> time; "plans" and "moves" are those parts of a drive, apart
         self.times = collections.defaultdict(dict)
-        # what -> kind -> for each plot: plans, reports, moves, cells expanded, cells expanded if all were planned anew
+        # what -> kind -> for each plot: plans, reports, moves, cells expanded, cells expanded if all were planned anew, most waiting
         self.has = collections.defaultdict(dict)
         # what -> kind -> (plot, round) -> work -> ticks; "call", "replan", and "repeated": the least of many on one state
         self.works = collections.defaultdict(dict)

@@ -1,6 +1,6 @@
 """Sentences that are computed from the figures: the bounds one by one, and where a peer wins."""
 
-from figures import NAMES, short
+from figures import NAMES, Spread, short
 
 
 def plots(figures):
@@ -17,12 +17,11 @@ def verdict(name, figures, what, top, bottom, bound):
 
 
 def serpentine(figures):
-    def ratio(work):
-        return figures.work_ticks("replan", "serpentine, cut", work) / figures.work_ticks("replan", "serpentine", work)
-
-    lent, own = ratio("core"), ratio("own")
-    met = "met" if max(lent, own) <= 3 else "**not met**"
-    return f"- Serpentine cut just before the goal, to the uncut one: {short(lent)} with the space lent, {short(own)} with its own; bound 3: {met}."
+    rounds = figures.works["replan"]
+    pairs = list(zip(rounds["serpentine, cut"], rounds["serpentine"]))
+    lent, own = (Spread(cut[work] / whole[work] for cut, whole in pairs) for work in ("core", "own"))
+    met = "met" if max(lent.middle, own.middle) <= 3 else "**not met**"
+    return f"- Serpentine cut just before the goal, to the uncut one: {lent} with the space lent, {own} with its own; bound 3: {met}."
 
 
 def verdicts(figures):
@@ -80,6 +79,16 @@ def walk_share(figures):
     return span([moves / (moves + plans) for moves, plans in parts])
 
 
+def most_waiting(figures):
+    return str(max(row[5] for kinds in figures.has.values() for rows in kinds.values() for row in rows))
+
+
+def against_heap(figures):
+    """How the cores stand to the C++ heap on a drive's plans."""
+    ratios = [figures.ratio("plans", k, "core").middle for k in figures.kinds("plans")]
+    return f"{short(min(ratios))} to {short(max(ratios))}"
+
+
 def sentences(figures):
     return {
         "verdicts": verdicts(figures),
@@ -91,4 +100,6 @@ def sentences(figures):
         "scale": scale(figures),
         "test-share": test_share(figures),
         "walk-share": walk_share(figures),
+        "most-waiting": most_waiting(figures),
+        "against-heap": against_heap(figures),
     }
