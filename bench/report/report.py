@@ -61,6 +61,7 @@ def how(figures):
         ["C and C++", f"{about['gcc']}, -O3"],
         ["Rust", f"{about['rustc']}, opt-level 3"],
         ["packages", "; ".join(packages)],
+        ["load when the measuring began", about["load"]],
         ["seed, plots a kind, rounds", f"{about['seed']}, {about['plots']}, {about['repetitions']}"],
     ]
     return table(["", ""], rows)
