@@ -79,7 +79,7 @@ size_t heap_plan_cleared(size_t w, size_t h, State *s); // the same, over a work
 void codec_read(const u8 *bytes, size_t n, u8 *ground, u16 *learned, u8 *link);
 void codec_write(size_t w, size_t h, size_t goal, size_t cell, const u8 *ground, const u16 *learned, const u8 *link, u8 *bytes);
 
-// The proved functions under names that C can call (probe/lib.rt.in).
+// The proved functions under names that C can call (probe/lib.rt.in, probe_own/lib.rt.in).
 #define LENT const u8 *, size_t, u16 *, size_t, u8 *, size_t
 #define SCRATCH u8 *, size_t, u16 *, size_t, u8 *, size_t
 size_t probe_sound(size_t, size_t, size_t, size_t, const u8 *, size_t, const u16 *, size_t, const u8 *, size_t);
