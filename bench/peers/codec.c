@@ -1,11 +1,6 @@
 // The record's codec in C: copies for links, copies and exchanged bytes for learned, words of eight cells for ground.
-#include <stddef.h>
-#include <stdint.h>
+#include "../bench.h"
 #include <string.h>
-
-typedef uint8_t u8;
-typedef uint16_t u16;
-typedef uint64_t u64;
 
 static u8 *front(u8 *p, u8 tag, size_t size) {
     p[0] = tag, p[1] = (u8)(size >> 8), p[2] = (u8)size;
@@ -13,7 +8,7 @@ static u8 *front(u8 *p, u8 tag, size_t size) {
 }
 
 // n is a multiple of 8 here
-void c_decode(const u8 *restrict bytes, size_t n, u8 *restrict ground, u16 *restrict learned, u8 *restrict link) {
+void codec_read(const u8 *restrict bytes, size_t n, u8 *restrict ground, u16 *restrict learned, u8 *restrict link) {
     const u8 *p = bytes + 21, *l = p + n / 8 + 3, *k = l + 2 * n + 3;
     for (size_t j = 0; j < n / 8; j++) {
         u64 b = p[j], x = ((b & 0x7f) * 0x0002040810204081ULL & 0x0101010101010101ULL) | (b & 0x80) << 49;
@@ -24,7 +19,7 @@ void c_decode(const u8 *restrict bytes, size_t n, u8 *restrict ground, u16 *rest
     memcpy(link, k, n);
 }
 
-void c_encode(size_t w, size_t h, size_t goal, size_t cell, const u8 *restrict ground, const u16 *restrict learned, const u8 *restrict link,
+void codec_write(size_t w, size_t h, size_t goal, size_t cell, const u8 *restrict ground, const u16 *restrict learned, const u8 *restrict link,
               u8 *restrict bytes) {
     size_t n = w * h;
     u8 *p = bytes;
