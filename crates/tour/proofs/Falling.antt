@@ -31,8 +31,9 @@ use Rattle.plot.proofs.Commuting.{Blocks, report-keeps}
 use Rattle.plot.proofs.Planning.{Planning, plan-refused, plan-there, plan-none, plan-found, plan-is}
 use Rattle.plot.proofs.Keeping.{plan-keeps, route-stands-after}
 use Rattle.plot.proofs.Moving.{Moving, move-refused, move-there, move-lost, move-went, move-is, next-lower, moved-held, moved-stands}
-use Rattle.tour.specs.Turning.{Drive, says, isLast, unknown, seen, afterReport, afterMove, afterPlan, planLine, turn}
-use Rattle.tour.specs.declared.Line.{Line}
+use Rattle.lines.specs.Lines.{isLast}
+use Rattle.tour.specs.Turning.{Drive, says, unknown, seen, afterReport, afterMove, afterPlan, planLine, turn}
+use Rattle.lines.specs.declared.Line.{Line}
 
 -- What is left to do ------------------------------------------------------------------------------------------------------------------
 
@@ -44,7 +45,7 @@ abbrev toLearn : (truth : List ℕ) → Drive → ℕ
 toLearn truth k = tally (cellsOf (k .head)) (hidden truth (k .held .ground))
 
 -- the steps to go where a route stands, and more than any where none does
-abbrev toGo : Drive → ℕ
+abbrev pub toGo : Drive → ℕ
 toGo k = cond (stands (k .head) (k .held)) (getD (k .held .learned) (k .head .cell) 0) (cellsOf (k .head))
 
 abbrev pub leftToDo : (truth : List ℕ) → Drive → ℕ
@@ -55,7 +56,7 @@ pub record InOrder (k : Drive) : Type 0 where
   pub held : Held (k .head) (k .held)
   pub sized : Sized (cellsOf (k .head)) (k .scratch)
 
-to-go-most : (k : Drive) → InOrder k → toGo k ≤ cellsOf (k .head)
+pub to-go-most : (k : Drive) → InOrder k → toGo k ≤ cellsOf (k .head)
 to-go-most k o = go (stands (k .head) (k .held))
   where
     go : (b : Bool) → cond b (getD (k .held .learned) (k .head .cell) 0) (cellsOf (k .head)) ≤ cellsOf (k .head)

@@ -1,3 +1,4 @@
 pub mod Looking
 pub mod Falling
+pub mod Going
 pub mod Turning

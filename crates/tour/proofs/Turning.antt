@@ -34,7 +34,7 @@ use Rattle.plot.proofs.Moving.{Moving, move-refused, move-there, move-lost, mov
 use Rattle.plan.specs.Passed.{Passed}
 use Rattle.tour.specs.Turning.{Drive, says, seen, afterPlan, planLine, turn, driveWith}
 use Rattle.tour.specs.Looking.{Looking}
-use Rattle.tour.specs.declared.Line.{Line}
+use Rattle.lines.specs.declared.Line.{Line}
 use Rattle.tour.proofs.Falling.{InOrder, sees}
 
 module _ {head : Head} {p : Lent} {s : Scratch} (passed : Passed head p s) (truth : List ℕ) (moves : ℕ) where

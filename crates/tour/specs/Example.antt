@@ -9,10 +9,11 @@ use Rattle.plot.specs.Head.{cellsOf}
 use Rattle.plot.specs.Record.{roomFor}
 use Rattle.plot.specs.Layout.{laidOut}
 use Rattle.plot.specs.Examples.{definitions}
-use Rattle.tour.specs.Text.{digits}
-use Rattle.tour.specs.Drawing.{Drawing, rowText, text, fine, value, behind, drawingIn, wellFormed}
-use Rattle.tour.specs.Turning.{Drive, isLast, unknown, seen, turn}
-use Rattle.tour.specs.declared.Line.{Line}
+use Rattle.pen.specs.Text.{digits}
+use Rattle.drawing.specs.Drawing.{Drawing, rowText, text, fine, value, behind, truthIn, drawingIn, wellFormed}
+use Rattle.lines.specs.Lines.{isLast}
+use Rattle.tour.specs.Turning.{Drive, unknown, seen, turn}
+use Rattle.lines.specs.declared.Line.{Line}
 
 -- 3 2 0 2 / .#. / ...
 abbrev input : List ℕ
@@ -31,5 +32,5 @@ lines (suc m) truth k = let s = turn truth k in s .line ∷ cond (isLast (s .lin
 -- document 01's example, line by line; what comes after its input, or is cut off, is no drawing
 pub example : (wellFormed input ≡ true) × (lines 20 (drawingIn input .truth) (first (drawingIn input))
     ≡ Line.Blocked 1 ∷ Line.Plan 4 4 ∷ Line.Move 3 ∷ Line.Move 4 ∷ Line.Move 5 ∷ Line.Move 2 ∷ Line.Arrived 4 ∷ [])
-unfolding definitions digits rowText text fine value behind drawingIn wellFormed unknown seen turn lines
+unfolding definitions digits rowText text fine value behind truthIn drawingIn wellFormed unknown seen turn lines
 example = (refl, refl)

@@ -1,7 +1,7 @@
 -- One turn of the drive, a line of what it prints: "It looks at the four neighbours (direction order) at the start and after each
 -- move, and reports each blocked one not yet known; on the goal it ends; if no route stands it plans; then it moves."
 use Prim.Native.Nat.{ℕ, _+_}
-use mathlib.Core.Bool.{Bool, true, false, cond, _&&_}
+use mathlib.Core.Bool.{Bool, cond, _&&_}
 use mathlib.Core.List.{List}
 use lib.ListN.{getD}
 use lib.Dec.{ltb, eqb}
@@ -14,7 +14,7 @@ use Rattle.plot.specs.Plan.{planned}
 use Rattle.plot.specs.Move.{moved}
 use Rattle.plot.specs.declared.Head.{Head}
 use Rattle.plot.specs.declared.Outcome.{Outcome}
-use Rattle.tour.specs.declared.Line.{Line}
+use Rattle.lines.specs.declared.Line.{Line}
 use Rattle.tour.specs.declared.Turned.{Turned}
 
 -- the drive between two lines
@@ -31,14 +31,6 @@ pub record Said : Type 0 where
 
 abbrev pub says : Line → Drive → Said
 says line k = record { line = line; drive = k }
-
--- "on the goal it ends", and "where there is no way"
-abbrev pub isLast : Line → Bool
-isLast (Line.Blocked cell) = false
-isLast (Line.Plan length expanded) = false
-isLast (Line.Move cell) = false
-isLast (Line.Arrived moves) = true
-isLast (Line.NoWay expanded) = true
 
 -- the neighbour in direction d is blocked in truth, and not yet known to be
 unfoldable pub unknown : Head → (truth ground : List ℕ) (d : ℕ) → Bool

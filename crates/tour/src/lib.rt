@@ -1,6 +1,7 @@
-// A cart's tour over a drawn plot: the turn of the drive (look, report, end, move, plan), and what a line of it says. That every
-// drive ends is `turn-falls` in proofs/Falling. What drawings are well formed stands in specs/Drawing; its parser is not here yet.
+// A cart's tour over a drawn plot: the turn of the drive (look, report, end, move, plan), which says one line. That every drive
+// ends is `turn-falls` in proofs/Falling.
 use ground::block;
+use lines::Line;
 use numbers::step_verdict;
 use plan::replan_with;
 use plot::Head;
@@ -16,15 +17,6 @@ ghost use Rattle.plot.specs.Lent.{lentWith, scratchWith};
 ghost use Rattle.plan.specs.Passed.{Planable};
 ghost use Rattle.tour.specs.Turning.{unknownBeside, seen, planLine, driveWith, saidWith, turn};
 ghost use Rattle.tour.specs.Looking.{Looking};
-
-// A line of what the drive prints.
-pub enum Line {
-    Blocked(usize),
-    Plan { length: usize, expanded: usize },
-    Move(usize),
-    Arrived(usize),
-    NoWay(usize),
-}
 
 // A line, and the head and the number of moves after it.
 pub struct Turned {

@@ -1,0 +1,21 @@
+-- Two numbers behind words.
+-- Assumes nothing.
+use Prim.Native.Nat.{ℕ, _+_, _<_}
+use mathlib.Core.List.{List, [], _∷_, _++_}
+use native.Mathlib.Omega.{arith}
+use lib.ListN.{length, length-append}
+use Rattle.pen.specs.Text.{lineFeed, space, decimal, number, Penned}
+use Rattle.pen.proofs.Penning.{pen-then, pen-long, digits-long}
+
+module _ (n : ℕ) {words l : List ℕ} {at a b : ℕ} {l₁ l₂ : List ℕ} (p : Penned at words l a l₁) (q : Penned a (number n space) l₁ b l₂) (room : at + length words + 41 < length l) where
+  both : Penned at (words ++ number n space) l b l₂
+  both = pen-then p q (omega arith)
+
+  few : at + length (words ++ number n space) + 20 < length l
+  few = omega (arith, length-append words (number n space), length-append (decimal n) (space ∷ []), digits-long 19 n)
+
+  pub plan-room : b + 20 < length l₂
+  plan-room = omega (arith, few, both .behind, pen-long both (omega (arith, few)))
+
+  pub plan-done : (m : ℕ) {next : ℕ} {l₃ : List ℕ} → Penned b (number m lineFeed) l₂ next l₃ → Penned at (words ++ number n space ++ number m lineFeed) l next l₃
+  plan-done m r = pen-then both r (omega (arith, few))

@@ -1,0 +1,66 @@
+// The lines that a drive prints, and their text.
+use pen::put_number;
+use pen::put_words;
+ghost use mathlib.Core.Path.{_≡_};
+ghost use mathlib.Core.List.{_++_};
+ghost use Prim.Native.Nat.{_+_, _≤_, _<_};
+ghost use lib.ListN.{length};
+ghost use Rattle.pen.specs.Text.{lineFeed, space, number, Penned};
+ghost use Rattle.lines.specs.Lines.{isLast, lineText};
+
+pub enum Line {
+    Blocked(usize),
+    Plan { length: usize, expanded: usize },
+    Move(usize),
+    Arrived(usize),
+    NoWay(usize),
+}
+
+// Whether the drive ends with this line.
+pub fn is_last(line: Line) -> bool
+    ensures { λ r. ⌜ r ≡ isLast line ⌝ }
+{
+    match line {
+        Line::Blocked(_) => false,
+        Line::Plan {
+            length: _,
+            expanded: _,
+        } => false,
+        Line::Move(_) => false,
+        Line::Arrived(_) => true,
+        Line::NoWay(_) => true,
+    }
+}
+
+// Words, a number and a line feed.
+fn put_worded(out: &mut [u8], at: usize, words: &[u8], n: usize) -> usize
+    requires { ⌜ at + length (now words) + 20 < length (now out) ⌝ }
+    ensures { λ r. ⌜ Penned at (now (words .entry) ++ number n lineFeed) (now (out .entry)) r (now (out .exit)) ⌝ }
+{
+    let next = put_words(out, at, words);
+    put_number(out, next, n, 10)
+}
+
+// Words, two numbers with a space between them, and a line feed.
+fn put_plan(out: &mut [u8], at: usize, words: &[u8], n: usize, m: usize) -> usize
+    requires { ⌜ at + length (now words) + 41 < length (now out) ⌝ }
+    ensures { λ r. ⌜ Penned at (now (words .entry) ++ number n space ++ number m lineFeed) (now (out .entry)) r (now (out .exit)) ⌝ }
+{
+    let length = put_words(out, at, words);
+    let expanded = put_number(out, length, n, 32);
+    put_number(out, expanded, m, 10)
+}
+
+// The text of a line, of which none is longer than 50 bytes.
+pub fn put_line(out: &mut [u8], at: usize, line: Line) -> usize
+    requires { ⌜ at + 50 ≤ length (now out) ⌝ }
+    ensures { λ r. ⌜ Penned at (lineText line) (now (out .entry)) r (now (out .exit)) ⌝ }
+{
+    match line {
+        Line::Blocked(cell) => put_worded(out, at, b"blocked ", cell),
+        Line::Plan { length, expanded } => put_plan(out, at, b"plan ", length, expanded),
+        Line::Move(cell) => put_worded(out, at, b"move ", cell),
+        Line::Arrived(moves) => put_worded(out, at, b"arrived ", moves),
+        Line::NoWay(expanded) => put_worded(out, at, b"no way ", expanded),
+    }
+}
