@@ -26,7 +26,7 @@ use Rattle.drawing.specs.declared.Drawn.{Drawn}
 use Rattle.drawing.proofs.Texts.{rows-within}
 
 -- single entries, gathered
-singles : (entry : ℕ → ℕ) (n c : ℕ) → c < n → getD (gathered n (λ k. entry k ∷ [])) c 0 ≡ entry c
+pub singles : (entry : ℕ → ℕ) (n c : ℕ) → c < n → getD (gathered n (λ k. entry k ∷ [])) c 0 ≡ entry c
 singles entry n c inside =
     let at : c * 1 + 0 ≡ c = omega arith in
     rw (append-nil, at) at (getD-gathered 1 (λ k. entry k ∷ []) (λ _. refl) n 0 (omega arith) [] c inside)

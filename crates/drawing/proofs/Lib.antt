@@ -1,3 +1,4 @@
 pub mod Numbers
 pub mod Texts
 pub mod Answers
+pub mod Drawings

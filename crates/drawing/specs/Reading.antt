@@ -26,7 +26,7 @@ pub record Headed (bytes : List ℕ) (head : Head) (rows : ℕ) : Type 0 where
 unfoldable pub onPlot : Head → Bool
 onPlot head = not (badSides (head .width) (head .height)) && not (anyOutside (cellsOf head) (cellsNamed head))
 
--- there is room for the text of a drawing of good sides, and truth has all cells
+-- there is room for the text of a drawing of good sides (four numbers of at most 21 bytes, and 64 rows of 65), and truth has all cells
 pub record Drawable (head : Head) (truth out : List ℕ) : Type 0 where
   pub sides : badSides (head .width) (head .height) ≡ false
   pub truths : cellsOf head ≤ length truth

@@ -1,9 +1,9 @@
 -- The drive of document 01's example, computed out of the definitions. No contract cites this file.
 use mathlib.Core.Path.{_≡_, refl}
-use mathlib.Core.Bool.{true, cond}
-use mathlib.Core.List.{List, [], _∷_}
+use mathlib.Core.Bool.{true, false, cond}
+use mathlib.Core.List.{List, [], _∷_, _++_}
 use Prim.Native.Nat.{ℕ, zero, suc}
-use lib.ListN.{replicate}
+use lib.ListN.{take, replicate}
 use Rattle.plot.specs.Lent.{scratchWith}
 use Rattle.plot.specs.Head.{cellsOf}
 use Rattle.plot.specs.Record.{roomFor}
@@ -29,8 +29,8 @@ unfoldable pub lines : (most : ℕ) (truth : List ℕ) → Drive → List Line
 lines zero truth k = []
 lines (suc m) truth k = let s = turn truth k in s .line ∷ cond (isLast (s .line)) [] (lines m truth (s .drive))
 
--- document 01's example, line by line; what comes after its input, or is cut off, is no drawing
-pub example : (wellFormed input ≡ true) × (lines 20 (drawingIn input .truth) (first (drawingIn input))
+-- document 01's example, line by line; with a line feed more, or with its last byte cut off, it is no drawing
+pub example : (wellFormed input ≡ true) × (wellFormed (input ++ (10 ∷ [])) ≡ false) × (wellFormed (take 15 input) ≡ false) × (lines 20 (drawingIn input .truth) (first (drawingIn input))
     ≡ Line.Blocked 1 ∷ Line.Plan 4 4 ∷ Line.Move 3 ∷ Line.Move 4 ∷ Line.Move 5 ∷ Line.Move 2 ∷ Line.Arrived 4 ∷ [])
 unfolding definitions digits rowText text fine value behind truthIn drawingIn wellFormed unknown seen turn lines
-example = (refl, refl)
+example = (refl, refl, refl, refl)
