@@ -1,5 +1,5 @@
 // The proved library as two contestants: its calls over a host's own buffers, each with the test over all cells, and its cores,
-// for a host that knows its data to be sound. Both keep what they learn for the whole of a drive.
+// which crates in Rattle use that have shown their data to be sound. Both keep what they learn for the whole of a drive.
 #include "../include/salenduro.h"
 #include "bench.h"
 #include "contestants.h"

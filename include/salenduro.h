@@ -10,7 +10,8 @@
  * may be null where the length is 0. No two of the buffers of one call may overlap; no other thread may use them during the
  * call, but for those that are const, which others may read. This is all that a call cannot check.
  *
- * Stack, about: plan 53 KiB, load 21 KiB; over a record, plan 85 KiB, report and move 37 KiB; the others 5 KiB at most.
+ * Stack, by the arrays that stand on it at once, and a little more for frames: plan 52 KiB, load 20 KiB; over a record,
+ * plan 84 KiB, report and move 36 KiB; the others 4 KiB at most.
  *
  * What is checked. Every call takes every content of its buffers: sizes, cells, lengths and data are tested first, and
  * whatever is wrong is refused by number. A refusal writes nothing at all, in no buffer.

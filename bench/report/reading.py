@@ -69,6 +69,12 @@ def test_share(figures):
     return span([figures.work_ticks("call", k, "sound") / figures.work_ticks("call", k, "call") for k in plots(figures)])
 
 
+def share_beside(figures, core):
+    """How much of a call is the test, where the call is the test and this core."""
+    ticks = [[figures.work_ticks("call", k, work) for work in ("sound", core)] for k in plots(figures)]
+    return span([test / (test + rest) for test, rest in ticks])
+
+
 def walk_share(figures):
     """How much of the C++ heap's drive are its moves, which ask whether the route stands."""
 
@@ -99,6 +105,8 @@ def sentences(figures):
         "searches-core": winners(figures, "search", "core"),
         "scale": scale(figures),
         "test-share": test_share(figures),
+        "report-share": share_beside(figures, "block"),
+        "move-share": share_beside(figures, "advance"),
         "walk-share": walk_share(figures),
         "most-waiting": most_waiting(figures),
         "against-heap": against_heap(figures),

@@ -4,10 +4,9 @@ import random
 import unittest
 
 import common
+import drawings
+from drawings import EXAMPLE, EXAMPLE_LINES
 from show import cart, plot, replay
-
-EXAMPLE = b"3 2 0 2\n.#.\n...\n"
-EXAMPLE_LINES = "blocked 1\nplan 4 4\nmove 3\nmove 4\nmove 5\nmove 2\narrived 4\n"
 
 
 def fresh(width, height, start, goal):
@@ -72,8 +71,7 @@ class Examples(unittest.TestCase):
 class Drives(unittest.TestCase):
     def test_random_plots(self):
         chance, ways = random.Random(20261115), {"arrived": 0, "no": 0}
-        for _ in range(240):
-            drawing = random_drawing(chance)
+        for drawing in drawings.random_ones(chance, 240):
             said = common.printed(drawing)
             self.assertEqual(lines(drawing), said, drawing.decode())
             ways[said.splitlines()[-1].split()[0]] += 1
@@ -96,14 +94,3 @@ class Drives(unittest.TestCase):
             self.assertTrue(drive.arrived)
             self.assertGreater(len(drive.path), replay.fewest(drive.plot) + 1, "it turns back somewhere")
             self.assertTrue(any(plan.stop != drive.plot.goal for plan in drive.plans), "an older route is met")
-
-
-def random_drawing(chance):
-    most = chance.choice((4, 9, 9, 20, 64))
-    width, height = chance.randint(1, most), chance.randint(1, most)
-    dense = chance.choice((0.05, 0.2, 0.3, 0.4))
-    cells = ["#" if chance.random() < dense else "." for _ in range(width * height)]
-    start, goal = chance.randrange(width * height), chance.randrange(width * height)
-    cells[start] = "."
-    rows = ["".join(cells[row * width:(row + 1) * width]) + "\n" for row in range(height)]
-    return (f"{width} {height} {start} {goal}\n" + "".join(rows)).encode()

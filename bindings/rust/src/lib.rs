@@ -29,7 +29,7 @@
 //! ```
 //!
 //! Every call takes every input: sizes, cells and bytes are tested by the library, and whatever is wrong comes back as a
-//! [`Refusal`], with nothing changed. A plan needs about 53 KiB of stack, and [`record::plan`] 85 KiB.
+//! [`Refusal`], with nothing changed. A plan needs 52 KiB of stack, [`record::plan`] 84 KiB, and a little more for frames.
 
 #![deny(missing_docs, unsafe_code)]
 
