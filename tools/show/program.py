@@ -10,7 +10,6 @@ from pathlib import Path
 
 # far more than any drive takes under an emulator
 PATIENCE = 600
-BAD_INPUT = "bad input\n"
 
 
 class NoProgram(Exception):
@@ -75,8 +74,6 @@ def printed(words, drawing):
         raise NoProgram(f"{words[-1]}: {error.strerror}") from None
     except subprocess.TimeoutExpired:
         raise Failed(f"drive did not end within {PATIENCE} seconds") from None
-    said = ended.stdout.decode("latin-1")
-    # document 01 leaves open how a program ends that was given bad input
-    if ended.returncode != 0 and said != BAD_INPUT:
+    if ended.returncode != 0:
         raise Failed(f"drive ended with status {ended.returncode}")
-    return said
+    return ended.stdout.decode("latin-1")

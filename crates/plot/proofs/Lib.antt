@@ -4,6 +4,7 @@ pub mod Geometry
 pub mod Fit
 pub mod Soundness
 pub mod Accepting
+pub mod Numbering
 pub mod Sameness
 pub mod Views
 pub mod Routing

@@ -1,8 +1,8 @@
 -- What a test of a definition says is what a row of the table says; and a chain of tests gives a reason exactly as a chain of
 -- rows does. Assumes nothing.
 use mathlib.Core.Path.{_≡_, refl, sym, ap, _∙_}
-use mathlib.Core.Logic.{_↔_, _⊎_, inl, inr}
-use mathlib.Core.Bool.{Bool, true, false, not, cond, _&&_, _||_, false≢true}
+use mathlib.Core.Logic.{_⊎_, inl, inr}
+use mathlib.Core.Bool.{Bool, true, false, not, _&&_, _||_, false≢true}
 use mathlib.Core.List.{List, [], _∷_}
 use Prim.Native.Nat.{ℕ, zero, suc, _≤_, _<_}
 use native.Mathlib.Omega.{arith}
@@ -18,9 +18,7 @@ use Rattle.plot.proofs.Bools.{and-left, and-right}
 use Rattle.plot.proofs.Soundness.{sound-fit, fit-sound}
 use Rattle.plot.proofs.Routing.{leads-goal}
 use Rattle.plot.specs.Refusals.{refuseIf, andThen, tooShort, anyShort, anyOutside}
-use Rattle.plot.specs.Numbers.{reasonNumber, verdictNumber}
 use Rattle.plot.specs.declared.Reason.{Reason}
-use Rattle.plot.specs.declared.Reason.the-variants.{Sides, Short, Outside, Unsound, OwnCell, NoRoute, Form}
 use Rattle.plot.specs.declared.Verdict.{Verdict}
 use Rattle.plot.specs.declared.Verdict.the-variants.{Accepted, Refused}
 use Rattle.plot.proofs.Accepting.{not-both}
@@ -192,38 +190,3 @@ then-then (Refused why) v next = refl
 pub then-accepted : (v : Verdict) → andThen v Accepted ≡ v
 then-accepted Accepted = refl
 then-accepted (Refused why) = refl
-
--- Numbers -------------------------------------------------------------------------------------------------------------------------------
-
--- a reason is known by its number
-unfoldable reasonOf : ℕ → Reason
-reasonOf n =
-    cond (eqb n 1) Sides
-    (cond (eqb n 2) Short
-    (cond (eqb n 3) Outside
-    (cond (eqb n 4) Unsound
-    (cond (eqb n 5) OwnCell
-    (cond (eqb n 6) NoRoute Form)))))
-
-by-number : (why : Reason) → reasonOf (reasonNumber why) ≡ why
-unfolding reasonOf
-by-number Sides = refl
-by-number Short = refl
-by-number Outside = refl
-by-number Unsound = refl
-by-number OwnCell = refl
-by-number NoRoute = refl
-by-number Form = refl
-
-pub some-number : (why : Reason) → 0 < reasonNumber why
-some-number Sides = omega arith
-some-number Short = omega arith
-some-number Outside = omega arith
-some-number Unsound = omega arith
-some-number OwnCell = omega arith
-some-number NoRoute = omega arith
-some-number Form = omega arith
-
-pub refused-number : (v : Verdict) (why : Reason) → (verdictNumber v ≡ reasonNumber why) ↔ (v ≡ Refused why)
-refused-number Accepted why = (λ e. absurd (omega (arith, some-number why)), λ e. absurd (not-both e refl))
-refused-number (Refused other) why = (λ e. ap Refused (sym (by-number other) ∙ ap reasonOf e ∙ by-number why), λ e. ap verdictNumber e)

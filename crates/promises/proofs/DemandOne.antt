@@ -15,10 +15,10 @@ use Rattle.plot.specs.declared.Reason.{Reason}
 use Rattle.plot.specs.declared.Verdict.{Verdict}
 use Rattle.plot.specs.declared.Verdict.the-variants.{Accepted, Refused}
 use Rattle.plot.proofs.Accepting.{not-both}
+use Rattle.plot.proofs.Numbering.{refused-number, some-number}
 use Rattle.plot.proofs.Listing.{ListingOf, list-refused, list-written, list-is, cells-long, question-exactly}
 use Rattle.promises.specs.Asking.{Ask, Result, result, lent, left, number, headIn, headOut}
 use Rattle.promises.specs.Table.{Rows}
-use Rattle.promises.proofs.Deciding.{refused-number, some-number}
 use Rattle.promises.proofs.Verdicts.{verdict, follows}
 use Rattle.promises.proofs.Ending.{Ends, accepts, refuses, ends}
 

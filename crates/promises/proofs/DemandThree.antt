@@ -3,13 +3,14 @@
 use mathlib.Core.Path.{_≡_, refl, sym}
 use mathlib.Core.Bool.{true}
 use mathlib.Core.List.{List, [], _∷_}
-use Prim.Native.Nat.{ℕ, _≤_}
+use Prim.Native.Nat.{ℕ, _≤_, _<_}
 use native.Mathlib.Nat.{le-trans}
 use native.Mathlib.Omega.{arith}
 use Rattle.walks.specs.Walk.{Walk, stay, step}
 use Rattle.walks.proofs.Walks.{admissible}
 use Rattle.plot.specs.Plot.{free}
 use Rattle.plot.specs.Lent.{Lent, Scratch}
+use Rattle.plot.specs.Head.{cellsOf}
 use Rattle.plot.specs.Layout.{laidOut}
 use Rattle.plot.specs.Report.{reported}
 use Rattle.plot.specs.Plan.{planCheck, planned}
@@ -101,8 +102,8 @@ never-falls (call ∷ calls) k x = le-trans (rises k call x) (never-falls calls 
 pub never-exceeds : (k : Cart) → Fits k → (x n : ℕ) → Shortest (k .head) (k .held) x n → learnt k x ≤ n
 never-exceeds k e x n f = let a = accepts-held (k .head) (k .held) e in admissible (fit-consistent (a .fit)) (a .fit .zero-there) (f .walk)
 
--- nor the true distance over any ground that is blocked wherever it is known to be
-pub never-exceeds-true : (k : Cart) → Fits k → (truth : List ℕ) → ((c : ℕ) → free truth c ≡ true → free (k .held .ground) c ≡ true)
+-- nor the true distance over any ground whose cells are blocked wherever they are known to be
+pub never-exceeds-true : (k : Cart) → Fits k → (truth : List ℕ) → ((c : ℕ) → c < cellsOf (k .head) → free truth c ≡ true → free (k .held .ground) c ≡ true)
     → (x n : ℕ) → Walk (Adj (k .head .width) (k .head .height) truth) x (k .head .goal) n → learnt k x ≤ n
 never-exceeds-true k e truth known x n w =
     let a = accepts-held (k .head) (k .held) e in admissible (fit-consistent (a .fit)) (a .fit .zero-there) (go w)
@@ -110,13 +111,14 @@ never-exceeds-true k e truth known x n w =
     leg : {y z : ℕ} → Adj (k .head .width) (k .head .height) truth y z → Adj (k .head .width) (k .head .height) (k .held .ground) y z
     leg {y} b =
         let l = b .leg in
-        let here = known y (allowed-here (k .head .width) (k .head .height) truth y (b .dir) (l .may)) in
-        let there = known _ (allowed-free (k .head .width) (k .head .height) truth y (b .dir) (l .may)) in
+        let on = allowed-on (k .head .width) (k .head .height) truth y (b .dir) (l .may) in
+        let here = known y (l .inside) (allowed-here (k .head .width) (k .head .height) truth y (b .dir) (l .may)) in
+        let there = known _ on (allowed-free (k .head .width) (k .head .height) truth y (b .dir) (l .may)) in
         record {
           dir = b .dir;
           leg = record {
             inside = l .inside;
-            may = allow (k .head .width) (k .head .height) (k .held .ground) y (b .dir) here (allowed-on (k .head .width) (k .head .height) truth y (b .dir) (l .may)) there;
+            may = allow (k .head .width) (k .head .height) (k .held .ground) y (b .dir) here on there;
             lands = l .lands;
           };
         }

@@ -27,7 +27,7 @@ use Rattle.plot.proofs.Moving.{Moving, move-refused, move-there, move-lost, mov
 use Rattle.plot.proofs.Storing.{Saving, save-refused, save-wrote, save-is}
 use Rattle.route.specs.Onward.{Filled}
 use Rattle.route.proofs.Lists.{route-long, list-accepts}
-use Rattle.numbers.proofs.Numbering.{number-small}
+use Rattle.plot.proofs.Numbering.{number-small}
 
 -- a plan's length is the learned value of the cart's cell afterwards, and the data are accepted then
 pub route-few : (head : Head) (p : Lent) (s : Scratch) (L : ℕ) → planned head p s .answer .outcome ≡ Outcome.Route L → L < maxCells

@@ -7,3 +7,4 @@ pub mod Fitting
 pub mod Hosting
 pub mod Coinciding
 pub mod Leaving
+pub mod Answering

@@ -69,9 +69,12 @@ module _ (bytes : List ℕ) where
       pub move-writes : saveCheck (done .head) q bytes ≡ Accepted
       move-writes = may-write (done .head) q bytes move-held move-long
 
-      -- every cell that the head names fits 32 bits
-      pub moved-cells : (done .head .cell < 4096) × (done .head .goal < 4096)
-      moved-cells = (omega (arith, move-held .placed .cart-on, move-held .placed .few), omega (arith, move-held .placed .goal-on, move-held .placed .few))
+      -- every cell that the heads name fits 32 bits
+      pub moved-cells : (done .head .cell < 4096) × (done .head .goal < 4096) × (head .cell < 4096)
+      moved-cells =
+          let now = move-held .placed in
+          let then = r .held .placed in
+          (omega (arith, now .cart-on, now .few), omega (arith, now .goal-on, now .few), omega (arith, then .cart-on, then .few))
 
       pub move-done : {bytes′ : List ℕ} {answer : ℕ} {v : Verdict} → v ≡ stepVerdict (done .step) → v ≡ Accepted → bytes′ ≡ fronted (recordOf (done .head) q) bytes → answer ≡ done .head .cell
           → afterC answer bytes′ ≡ movedC bytes

@@ -9,10 +9,12 @@ use second::record::record_length;
 /// Every byte and every length of these plots' records; 8 cells leave no spare bit, 9 and 6 do.
 const SMALL: [(usize, usize); 5] = [(1, 1), (2, 1), (4, 2), (3, 3), (2, 3)];
 
+/// Its fields of 512 and of 256 bytes need both bytes of their lengths.
+const WIDE: (usize, usize) = (16, 16);
+
 pub fn all(sink: &mut dyn FnMut(Case)) {
     for (width, height) in SMALL {
-        let length = record_length(width * height);
-        for at in 0..length {
+        for at in 0..record_length(width * height) {
             for change in 0..10 {
                 sink(damaged(width, height, at, change));
             }
@@ -24,12 +26,40 @@ pub fn all(sink: &mut dyn FnMut(Case)) {
             }
         }
     }
+    let (width, height) = WIDE;
+    for at in 0..record_length(width * height) {
+        for change in [at % 8, 8, 9] {
+            sink(damaged(width, height, at, change));
+        }
+    }
+    for start in starts(width * height) {
+        for at in start..start + 3 {
+            for change in 0..8 {
+                sink(damaged(width, height, at, change));
+            }
+        }
+    }
+    sink(cut(width, height));
+}
+
+/// How many bytes each field holds behind its tag and its length.
+fn sizes(n: usize) -> [usize; 7] {
+    [1, 1, 2, 2, n.div_ceil(8), 2 * n, n]
+}
+
+/// Where each field begins.
+fn starts(n: usize) -> impl Iterator<Item = usize> {
+    sizes(n).into_iter().scan(0, |next, size| {
+        let start = *next;
+        *next += 3 + size;
+        Some(start)
+    })
 }
 
 /// A small plot with one cell blocked and a plan, saved, with the record lent exactly.
 fn saved(width: usize, height: usize) -> Builder {
     let n = width * height;
-    let mut build = Builder::new("damaged records, small", n + 1, 2 * record_length(n), 11);
+    let mut build = Builder::new("damaged records, each byte", n + 1, 2 * record_length(n), 11);
     build.accepted(Call::Layout { sides: [width, height], start: 0, goal: n - 1 });
     if n > 2 {
         build.accepted(Call::Report(1));
@@ -80,14 +110,8 @@ fn cut(width: usize, height: usize) -> Case {
 fn rearranged(width: usize, height: usize, first: usize, second: usize) -> Case {
     let mut build = saved(width, height);
     let n = width * height;
-    let lengths = [1, 1, 2, 2, n.div_ceil(8), 2 * n, n];
     let bytes: Vec<u64> = (0..record_length(n)).map(|at| build.world.entry(Buffer::Bytes, at)).collect();
-    let mut fields: Vec<&[u64]> = Vec::new();
-    let mut start = 0;
-    for length in lengths {
-        fields.push(&bytes[start..start + 3 + length]);
-        start += 3 + length;
-    }
+    let mut fields: Vec<&[u64]> = starts(n).zip(sizes(n)).map(|(start, size)| &bytes[start..start + 3 + size]).collect();
     match first == second {
         true => fields.insert(first, fields[first]),
         false => fields.swap(first, second),

@@ -37,7 +37,7 @@ mul-n : tie.Need-mul-n
 mul-n c = omega (arith, load-passed _ _ (c .before .before .before .before .load-check .ensures) (c .before .before .enum-told .given .1) (c .before .head-of .ensures) .few)
 
 read-into-requires : tie.Need-read-into-requires
-read-into-requires c κs = let t = load-passed _ _ (c .before .before .before .before .before .before .before .load-check .ensures) (c .before .before .before .before .before .enum-told .given .1) (c .before .before .before .before .head-of .ensures) in (t .few, t .long, t .room .grounds, t .room .learneds, t .room .links)
+read-into-requires c κs = let t = load-passed _ _ (c .before .before .before .before .before .before .before .load-check .ensures) (c .before .before .before .before .before .enum-told .given .1) (c .before .before .before .before .head-of .ensures) in (t .few, t .long, omega (arith, t .room .grounds, t .room .learneds, t .room .links), omega (arith, t .room .grounds, t .room .learneds, t .room .links), omega (arith, t .room .grounds, t .room .learneds, t .room .links))
 
 same-length-4 : tie.Need-same-length-4
 same-length-4 c = search needs

@@ -1,5 +1,5 @@
 -- `numbers::refused` meets its contract: numbers are small. Assumes nothing.
-use Rattle.numbers.proofs.Numbering.{number-small}
+use Rattle.plot.proofs.Numbering.{number-small}
 use native.Mathlib.Omega.{arith}
 use borrow.Author.Needs.{needs}
 use Rattle.numbers.proofs.refused.Statement.{statement}

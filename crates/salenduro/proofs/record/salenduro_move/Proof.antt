@@ -77,7 +77,7 @@ write-record-requires : tie.Need-write-record-requires
 write-record-requires c κs = move-writes _ (was-read _ ((c .before .before .before .before .before .before .before .before .before .before .before .before .before .before .before .before .before .before .load) .ensures) ((c .before .before .before .before .before .before .before .before .before .before .before .before .before .enum-told) .given .1)) ((c .before .before .before .before .before .before .before .before .before .advance) .ensures)
 
 cast-result : tie.Need-cast-result
-cast-result c = let k = moved-cells _ (was-read _ ((c .before .before .before .before .before .before .before .before .before .before .before .before .before .before .before .before .before .before .before .before .before .before .load) .ensures) ((c .before .before .before .before .before .before .before .before .before .before .before .before .before .before .before .before .before .enum-told) .given .1)) ((c .before .before .before .before .before .before .before .before .before .before .before .before .before .advance) .ensures) in omega (arith, k .0, k .1)
+cast-result c = let k = moved-cells _ (was-read _ ((c .before .before .before .before .before .before .before .before .before .before .before .before .before .before .before .before .before .before .before .before .before .before .load) .ensures) ((c .before .before .before .before .before .before .before .before .before .before .before .before .before .before .before .before .before .enum-told) .given .1)) ((c .before .before .before .before .before .before .before .before .before .before .before .before .before .advance) .ensures) in omega (arith, k .0, k .1, k .2)
 
 same-length-3 : tie.Need-same-length-3
 same-length-3 c = search needs
