@@ -10,6 +10,7 @@ from pathlib import Path
 
 # far more than any drive takes under an emulator
 PATIENCE = 600
+BAD_INPUT = "bad input\n"
 
 
 class NoProgram(Exception):

@@ -11,10 +11,13 @@ ghost use Rattle.plot.specs.Numbers.{outcomeVerdict, stepVerdict, refusal, chan
 
 pub mod heads;
 
+// A refusal's number comes on top of this.
+pub const REFUSED: u32 = 70000;
+
 pub fn refused(why: Reason) -> u32
     ensures { λ r. ⌜ r ≡ refusal why ⌝ }
 {
-    70000 + why.number() as u32
+    REFUSED + why.number() as u32
 }
 
 pub fn plan_answer(outcome: Outcome) -> u32

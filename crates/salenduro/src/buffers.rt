@@ -6,6 +6,7 @@ use calls::plan;
 use calls::report;
 use listing::list_question;
 use load::load;
+use numbers::REFUSED;
 use numbers::changed_answer;
 use numbers::heads::CELL_AT;
 use numbers::heads::COUNT_AT;
@@ -142,7 +143,7 @@ pub extern "C" fn salenduro_buffers_list(
 {
     let number = salenduro_buffers_question(head, ground, learned, link, &list[..]);
     if number != 0 {
-        return 70000 + number;
+        return REFUSED + number;
     }
     fill_route(head_of(head), ground, learned, link, list) as u32
 }
