@@ -65,3 +65,5 @@ class WrongLines(unittest.TestCase):
 
     def test_a_program_that_fails(self):
         self.refused(ARRIVES, self.arrives, "status 3", status=3)
+        bad = common.drawn("no-row.txt", b"3 2 0 2\n...\n")
+        self.refused(bad, "bad input\n", "status 3", status=3)

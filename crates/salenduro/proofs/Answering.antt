@@ -31,15 +31,18 @@ use Rattle.numbers.specs.Heads.{headSize, headIn}
 use Rattle.salenduro.specs.Hosting.{unlessShort, AfterHost, AfterHostPlan, AfterHostFill, listAnswer, laidOutHost, reportedHost, plannedHost, movedHost, listedHost, questionHost, savedHost, loadedHost}
 use Rattle.salenduro.proofs.Fitting.{route-few, list-few}
 
--- the answer is 70,000 + a reason's number exactly when that is the verdict
+-- the answer is 70,000 + a reason's number exactly when that is the verdict, and below 70,000 where there is none
 abbrev pub Tells : (answer : ℕ) → Verdict → Type 0
-Tells answer v = (why : Reason) → (answer ≡ refusal why) ↔ (v ≡ Refused why)
+Tells answer v = ((why : Reason) → (answer ≡ refusal why) ↔ (v ≡ Refused why)) × (v ≡ Accepted → answer < 70000)
 
 accepted : {n : ℕ} → n < 70000 → Tells n Accepted
-accepted l why = (λ e. absurd (omega (arith, l, e)), λ e. absurd (not-both e refl))
+accepted l = (λ why. (λ e. absurd (omega (arith, l, e)), λ e. absurd (not-both e refl)), λ _. l)
 
 refused : (why : Reason) → Tells (refusal why) (Refused why)
-refused why other = (λ e. refused-number (Refused why) other .0 (omega (arith, e)), λ e. omega (arith, refused-number (Refused why) other .1 e))
+refused why = (
+  λ other. (λ e. refused-number (Refused why) other .0 (omega (arith, e)), λ e. omega (arith, refused-number (Refused why) other .1 e)),
+  λ e. absurd (not-both refl e),
+)
 
 changed : (v : Verdict) → Tells (changedAnswer v) v
 changed Accepted = accepted (omega arith)

@@ -181,8 +181,8 @@ pub extern "C" fn salenduro_buffers_load(
     if head.len() < HEAD_SIZE {
         return refused(Reason::Short);
     }
-    let changed = load(bytes, ground, learned, link);
-    set_head(head, changed);
-    let verdict = changed.verdict;
+    let read = load(bytes, ground, learned, link);
+    set_head(head, read);
+    let verdict = read.verdict;
     changed_answer(verdict)
 }

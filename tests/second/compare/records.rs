@@ -56,7 +56,7 @@ fn starts(n: usize) -> impl Iterator<Item = usize> {
     })
 }
 
-/// A small plot with one cell blocked and a plan, saved, with the record lent exactly.
+/// A plot with a plan, and with one cell blocked where it has more than two, saved, with the record lent exactly.
 fn saved(width: usize, height: usize) -> Builder {
     let n = width * height;
     let mut build = Builder::new("damaged records, each byte", n + 1, 2 * record_length(n), 11);
@@ -81,6 +81,7 @@ fn damaged(width: usize, height: usize, at: usize, change: usize) -> Case {
     let mut build = saved(width, height);
     let old = build.world.entry(Buffer::Bytes, at);
     let new = match change {
+        8 if old == 0 => 128,
         8 => 0,
         9 => 255,
         bit => old ^ (1 << bit),
