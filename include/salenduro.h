@@ -11,7 +11,7 @@
  * call, but for those that are const, which others may read. This is all that a call cannot check.
  *
  * Stack, by the arrays that stand on it at once, and a little more for frames: plan 52 KiB, load 20 KiB; over a record,
- * plan 84 KiB, report and move 36 KiB; the others 4 KiB at most.
+ * plan 84 KiB, report and move 20 KiB; the others 4 KiB at most.
  *
  * What is checked. Every call takes every content of its buffers: sizes, cells, lengths and data are tested first, and
  * whatever is wrong is refused by number. A refusal writes nothing at all, in no buffer.

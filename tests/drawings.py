@@ -1,28 +1,32 @@
 """Drawings for the tests of `drive` and of ./show: good ones with what is printed for some, each kind of bad form with where ./show
 says that it is bad, random ones and damaged ones."""
 
+from random import Random
+from typing import List, Optional, Set, Tuple
+
 EXAMPLE = b"3 2 0 2\n.#.\n...\n"
 EXAMPLE_LINES = "blocked 1\nplan 4 4\nmove 3\nmove 4\nmove 5\nmove 2\narrived 4\n"
 LONGEST = 4176  # bytes of the longest form
 FOUR = "line 1, column 1: four numbers"
 
 
-def drawing(width, height, start, goal, blocked):
+def drawing(width: int, height: int, start: int, goal: int, blocked: Set[int]) -> bytes:
     rows = ("".join("#" if row * width + column in blocked else "." for column in range(width)) for row in range(height))
     return f"{width} {height} {start} {goal}\n{''.join(row + chr(10) for row in rows)}".encode()
 
 
-def serpentine(width, height):
+def serpentine(width: int, height: int) -> Set[int]:
     """Rows of walls with one gap each, left and right in turn."""
     walls = {row * width + column for row in range(1, height, 2) for column in range(width)}
     return walls - {row * width + (width - 1 if row % 4 == 1 else 0) for row in range(1, height, 2)}
 
 
-def longest():
+def longest() -> bytes:
     return drawing(64, 64, 4095, 1000, set())
 
 
-def good():
+def good() -> List[Tuple[str, bytes, Optional[str]]]:
+    """A name, the drawing, and what `drive` prints for it where that is written down."""
     everything = set(range(4096))
     return [
         ("document 01's example", EXAMPLE, EXAMPLE_LINES),
@@ -43,7 +47,7 @@ def good():
     ]
 
 
-def bad():
+def bad() -> List[Tuple[str, bytes, str]]:
     """A name, the drawing, and what stands in ./show's line on it."""
     first, rows = EXAMPLE.split(b"\n", 1)
     lines = EXAMPLE.split(b"\n")
@@ -103,7 +107,7 @@ def bad():
     ]
 
 
-def random_one(random):
+def random_one(random: Random) -> bytes:
     most = random.choice((4, 9, 20, 64))
     width, height = random.randint(1, most), random.randint(1, most)
     cells, share = width * height, random.choice((0.0, 0.05, 0.1, 0.2, 0.3, 0.4, 0.6))
@@ -112,13 +116,13 @@ def random_one(random):
     return drawing(width, height, start, goal, blocked - {start})
 
 
-def random_ones(random, number):
+def random_ones(random: Random, number: int) -> List[bytes]:
     return [random_one(random) for _ in range(number)]
 
 
-def damaged(random, number):
+def damaged(random: Random, number: int) -> List[bytes]:
     """Small drawings with a byte changed, lost, doubled, or put in; most are bad input, and some are another drawing."""
-    found = []
+    found: List[bytes] = []
     while len(found) < number:
         whole = bytearray(random_one(random)[: random.choice([None, None, None, 20])])
         at, byte = random.randrange(len(whole)), random.choice(b"0123456789 .#\n\r\0x")

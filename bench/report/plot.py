@@ -1,8 +1,9 @@
 """Draws the ratios as an SVG: a row for each kind, a mark for each contestant, a bar for its quartiles, on a scale by powers."""
 
 import math
+from typing import Iterator, List
 
-from figures import BASE, NAMES
+from figures import BASE, NAMES, Figures
 
 # the colours of Okabe and Ito, and a shape for each, so that colour alone tells nothing
 STYLE = {
@@ -16,7 +17,7 @@ STYLE = {
 LEFT, WIDE, ROW, TOP = 150, 640, 34, 112
 
 
-def mark(shape, x, y, colour):
+def mark(shape: str, x: float, y: float, colour: str) -> str:
     r = 4
     points = {
         "square": [(-r, -r), (r, -r), (r, r), (-r, r)],
@@ -32,19 +33,19 @@ def mark(shape, x, y, colour):
     return f'<polygon points="{corners}" fill="{colour}"/>'
 
 
-def text(x, y, words, anchor="start", size=13, weight="normal"):
+def text(x: float, y: float, words: str, anchor: str = "start", size: int = 13, weight: str = "normal") -> str:
     return f'<text x="{x:.1f}" y="{y:.1f}" text-anchor="{anchor}" font-size="{size}" font-weight="{weight}">{words}</text>'
 
 
 class Scale:
-    def __init__(self, low, high):
+    def __init__(self, low: float, high: float) -> None:
         self.low, self.high = math.floor(math.log10(low)), math.ceil(math.log10(high))
 
-    def at(self, ratio):
+    def at(self, ratio: float) -> float:
         part = (math.log10(max(ratio, 10**self.low)) - self.low) / (self.high - self.low)
         return LEFT + WIDE * part
 
-    def lines(self, top, bottom):
+    def lines(self, top: int, bottom: int) -> Iterator[str]:
         for power in range(self.low, self.high + 1):
             for k in (1, 2, 5):
                 if power == self.high and k > 1:
@@ -56,7 +57,7 @@ class Scale:
                 yield text(x, bottom + 16, f"{k * 10.0**power:g}", "middle", 11)
 
 
-def panel(figures, what, title, top, scale, names):
+def panel(figures: Figures, what: str, title: str, top: int, scale: Scale, names: List[str]) -> Iterator[str]:
     kinds = figures.kinds(what)
     bottom = top + 10 + ROW * len(kinds)
     yield text(LEFT, top - 10, title, weight="bold")
@@ -73,7 +74,7 @@ def panel(figures, what, title, top, scale, names):
             yield mark(shape, scale.at(s.middle), v, colour)
 
 
-def legend(names):
+def legend(names: List[str]) -> Iterator[str]:
     for i, who in enumerate(names):
         x, y = LEFT + (i % 3) * 215, 46 + (i // 3) * 20
         colour, shape = STYLE[who]
@@ -81,7 +82,7 @@ def legend(names):
         yield text(x + 13, y, NAMES[who].replace("\\", ""))
 
 
-def draw(figures):
+def draw(figures: Figures) -> str:
     names = [who for who in figures.contestants() if who != BASE]
     spreads = [figures.ratio(w, k, who) for w in ("drive", "search") for k in figures.kinds(w) for who in names]
     scale = Scale(max(0.1, min(s.low for s in spreads)), max(s.high for s in spreads))

@@ -1,14 +1,16 @@
 """Sentences that are computed from the figures: the bounds one by one, and where a peer wins."""
 
-from figures import NAMES, Spread, short
+from typing import Dict, List
+
+from figures import NAMES, Figures, Spread, short
 
 
-def plots(figures):
+def plots(figures: Figures) -> List[str]:
     """The kinds that the bounds are over: all but the serpentine, which has one of its own."""
     return [kind for kind in figures.works["call"] if not kind.startswith("serpentine")]
 
 
-def verdict(name, figures, what, top, bottom, bound):
+def verdict(name: str, figures: Figures, what: str, top: str, bottom: List[str], bound: float) -> str:
     found = sorted((figures.work_ratio(what, k, top, bottom).middle, k) for k in plots(figures))
     (low, _), (high, _) = found[0], found[-1]
     over = [kind for ratio, kind in found if ratio > bound]
@@ -16,7 +18,7 @@ def verdict(name, figures, what, top, bottom, bound):
     return f"- {name}: {short(low)} to {short(high)}; bound {bound:g}: {met}."
 
 
-def serpentine(figures):
+def serpentine(figures: Figures) -> str:
     rounds = figures.works["replan"]
     pairs = list(zip(rounds["serpentine, cut"], rounds["serpentine"]))
     lent, own = (Spread(cut[work] / whole[work] for cut, whole in pairs) for work in ("core", "own"))
@@ -24,20 +26,20 @@ def serpentine(figures):
     return f"- Serpentine cut just before the goal, to the uncut one: {lent} with the space lent, {own} with its own; bound 3: {met}."
 
 
-def verdicts(figures):
+def verdicts(figures: Figures) -> str:
     found = [verdict("Soundness test, to the C flags", figures, "call", "sound", ["flags"], 1)]
     for work, space in (("core", "lent"), ("own", "its own")):
         for what, how in (("replan", "in passing"), ("repeated", "repeated on each state")):
             name = f"Replan without the test, working space {space}, {how}, to the C++ heap"
             found.append(verdict(name, figures, what, work, ["heap"], 1.3))
     found.append(serpentine(figures))
-    for call, core in (("plan", "core"), ("report", "block"), ("move", "advance")):
+    for call, core, bound in (("plan", "core", 1.25), ("report", "block", 1.2), ("move", "advance", 1.2)):
         name = f"The call {call} over a record, to the sum of test, core and codec in C"
-        found.append(verdict(name, figures, "call", f"record-{call}", ["sound", core, "codec"], 2))
+        found.append(verdict(name, figures, "call", f"record-{call}", ["sound", core, "codec"], bound))
     return "\n".join(found)
 
 
-def winners(figures, what, against):
+def winners(figures: Figures, what: str, against: str) -> str:
     """For each peer, the kinds on which it takes less than `against`, with the ratio."""
     out = []
     for who in figures.contestants():
@@ -50,7 +52,7 @@ def winners(figures, what, against):
     return "\n".join(out)
 
 
-def scale(figures):
+def scale(figures: Figures) -> str:
     kind = "random 25 %"
     call, core = (figures.microseconds("drive", kind, who) for who in ("call", "core"))
     calls = sum(figures.mean("drive", kind, k) for k in range(3))
@@ -60,42 +62,42 @@ def scale(figures):
     )
 
 
-def span(parts):
+def span(parts: List[float]) -> str:
     return f"{100 * min(parts):.0f} to {100 * max(parts):.0f} %"
 
 
-def test_share(figures):
+def test_share(figures: Figures) -> str:
     """How much of plan's call is the test."""
     return span([figures.work_ticks("call", k, "sound") / figures.work_ticks("call", k, "call") for k in plots(figures)])
 
 
-def share_beside(figures, core):
+def share_beside(figures: Figures, core: str) -> str:
     """How much of a call is the test, where the call is the test and this core."""
     ticks = [[figures.work_ticks("call", k, work) for work in ("sound", core)] for k in plots(figures)]
     return span([test / (test + rest) for test, rest in ticks])
 
 
-def walk_share(figures):
+def walk_share(figures: Figures) -> str:
     """How much of the C++ heap's drive are its moves, which ask whether the route stands."""
 
-    def total(what, kind):
+    def total(what: str, kind: str) -> int:
         return sum(r["adaptive"] for r in figures.times[what][kind].values())
 
     parts = [(total("moves", k), total("plans", k)) for k in figures.kinds("drive")]
     return span([moves / (moves + plans) for moves, plans in parts])
 
 
-def most_waiting(figures):
+def most_waiting(figures: Figures) -> str:
     return str(max(row[5] for kinds in figures.has.values() for rows in kinds.values() for row in rows))
 
 
-def against_heap(figures):
+def against_heap(figures: Figures) -> str:
     """How the cores stand to the C++ heap on a drive's plans."""
     ratios = [figures.ratio("plans", k, "core").middle for k in figures.kinds("plans")]
     return f"{short(min(ratios))} to {short(max(ratios))}"
 
 
-def sentences(figures):
+def sentences(figures: Figures) -> Dict[str, str]:
     return {
         "verdicts": verdicts(figures),
         "drives-call": winners(figures, "drive", "call"),

@@ -2,16 +2,21 @@
    report.py WORK READING DOCS"""
 
 import sys
+from typing import List, Tuple
 
 import plot
 import reading
 from figures import BASE, NAMES, Figures
 
-def table(head, rows):
+# a title, what was measured, a work of it, and the works that it is compared with
+Column = Tuple[str, str, str, List[str]]
+
+
+def table(head: List[str], rows: List[List[str]]) -> str:
     return "\n".join(["| " + " | ".join(row) + " |" for row in [head, ["---"] * len(head), *rows]])
 
 
-def times_table(figures, what, has):
+def times_table(figures: Figures, what: str, has: str) -> str:
     """Times of everyone; `has` names the drives or searches that they are of."""
     others = [who for who in figures.contestants() if who != BASE]
     head = ["Plot", "Plans", "Cells expanded a plan", "anew"] + [NAMES[who] for who in others]
@@ -23,15 +28,14 @@ def times_table(figures, what, has):
     return table(head, rows)
 
 
-def works_table(figures, columns):
-    """Columns are (title, what, work, the works that it is compared with)."""
+def works_table(figures: Figures, columns: List[Column]) -> str:
     rows = []
     for kind in figures.works["call"]:
         rows.append([kind] + [str(figures.work_ratio(what, kind, top, bottom)) for _, what, top, bottom in columns])
     return table(["Plot"] + [column[0] for column in columns], rows)
 
 
-REPLANS = [
+REPLANS: List[Column] = [
     ("Soundness test (1)", "call", "sound", ["flags"]),
     ("Core, space lent (1.3)", "replan", "core", ["heap"]),
     ("the same, repeated", "repeated", "core", ["heap"]),
@@ -39,14 +43,14 @@ REPLANS = [
     ("the same, repeated", "repeated", "own", ["heap"]),
     ("the same, to a C++ heap that clears too", "repeated", "own", ["cleared"]),
 ]
-RECORDS = [
-    ("Plan (2)", "call", "record-plan", ["sound", "core", "codec"]),
-    ("Report (2)", "call", "record-report", ["sound", "block", "codec"]),
-    ("Move (2)", "call", "record-move", ["sound", "advance", "codec"]),
+RECORDS: List[Column] = [
+    ("Plan (1.25)", "call", "record-plan", ["sound", "core", "codec"]),
+    ("Report (1.2)", "call", "record-report", ["sound", "block", "codec"]),
+    ("Move (1.2)", "call", "record-move", ["sound", "advance", "codec"]),
 ]
 
 
-def how(figures):
+def how(figures: Figures) -> str:
     about = figures.about
     if about["machine"] == "x86_64":
         proved = "the archives that `rt staticlib` writes (clang of the kit, -O3, for any x86-64)"
@@ -67,7 +71,7 @@ def how(figures):
     return table(["", ""], rows)
 
 
-def main(work, template, docs):
+def main(work: str, template: str, docs: str) -> None:
     figures = Figures(work)
     parts = {
         "how": how(figures),

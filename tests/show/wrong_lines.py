@@ -1,33 +1,34 @@
 """A drive program that prints anything else than document 01 gives is refused with status 1, and no picture is made of it."""
 
 import re
-import unittest
+from pathlib import Path
+from typing import Tuple
 
 import common
 
 ARRIVES, SHUT = common.PLOTS / "rows.txt", common.PLOTS / "shut.txt"
 
 
-class WrongLines(unittest.TestCase):
-    def shown(self, path, text, status=0):
-        return common.show(path, "--drive", common.printing(text, status), "--out", common.ROOM / "wrong")
+class WrongLines(common.Case):
+    def shown(self, path: Path, text: str, status: int = 0) -> Tuple[int, str, str]:
+        return common.show(path, "--drive", self.bench.printing(text, status), "--out", self.bench.room / "wrong")
 
-    def refused(self, path, text, words, status=0):
+    def refused(self, path: Path, text: str, words: str, status: int = 0) -> None:
         ended, printed, said = self.shown(path, text, status)
         self.assertEqual((ended, printed, said.count("\n")), (1, "", 1), said)
         self.assertIn(words, said)
-        self.assertFalse((common.ROOM / "wrong").exists(), "nothing is written")
+        self.assertFalse((self.bench.room / "wrong").exists(), "nothing is written")
 
-    def setUp(self):
-        self.arrives, self.shut = (common.printed(path.read_bytes()) for path in (ARRIVES, SHUT))
+    def setUp(self) -> None:
+        self.arrives, self.shut = (self.bench.printed(path.read_bytes()) for path in (ARRIVES, SHUT))
 
-    def test_true_lines_are_shown(self):
+    def test_true_lines_are_shown(self) -> None:
         # the same program with nothing changed: what is refused below is refused for the change alone
         for path, text in ((ARRIVES, self.arrives), (SHUT, self.shut)):
-            ended, _, said = common.show(path, "--text", "--drive", common.printing(text))
+            ended, _, said = common.show(path, "--text", "--drive", self.bench.printing(text))
             self.assertEqual((ended, said), (0, ""))
 
-    def test_one_number_changed(self):
+    def test_one_number_changed(self) -> None:
         kinds = [
             (ARRIVES, self.arrives, r"^blocked (\d+)$"),
             (ARRIVES, self.arrives, r"^plan (\d+) \d+$"),
@@ -44,7 +45,7 @@ class WrongLines(unittest.TestCase):
                 with self.subTest(kind=kind, place=place):
                     self.refused(path, changed, f"line {text.count(chr(10), 0, at.start()) + 1}: ")
 
-    def test_lines_lost_added_and_exchanged(self):
+    def test_lines_lost_added_and_exchanged(self) -> None:
         lines = self.arrives.splitlines(keepends=True)
         half = len(lines) // 2
         self.refused(ARRIVES, "", "line 1: drive printed nothing")
@@ -56,14 +57,14 @@ class WrongLines(unittest.TestCase):
         self.refused(ARRIVES, self.arrives.replace("move", "Move", 1), "'Move")
         self.refused(ARRIVES, self.arrives.replace("\n", "\r\n"), "line 1: ")
 
-    def test_bad_input_said_of_a_good_drawing(self):
+    def test_bad_input_said_of_a_good_drawing(self) -> None:
         self.refused(ARRIVES, "bad input\n", "line 1: drive printed 'bad input'")
 
-    def test_a_drive_over_a_bad_drawing(self):
-        bad = common.drawn("start-blocked.txt", b"3 2 1 2\n.#.\n...\n")
+    def test_a_drive_over_a_bad_drawing(self) -> None:
+        bad = self.bench.drawn("start-blocked.txt", b"3 2 1 2\n.#.\n...\n")
         self.refused(bad, "arrived 0\n", "line 2, column 2: the start, cell 1, is on '#'")
 
-    def test_a_program_that_fails(self):
+    def test_a_program_that_fails(self) -> None:
         self.refused(ARRIVES, self.arrives, "status 3", status=3)
-        bad = common.drawn("no-row.txt", b"3 2 0 2\n...\n")
+        bad = self.bench.drawn("no-row.txt", b"3 2 0 2\n...\n")
         self.refused(bad, "bad input\n", "status 3", status=3)

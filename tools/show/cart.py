@@ -3,6 +3,9 @@ Written to be compared with what the proved program prints, not to stand in for 
 
 import heapq
 from dataclasses import dataclass
+from typing import Dict, List, Optional, Tuple
+
+from .plot import Plot
 
 UNSEEN, WAITING, EXPANDED = 0, 1, 2
 UNSEEN_COST = 65535
@@ -13,17 +16,17 @@ class Plan:
     """One plan's answer. Length and stop None are "no way", and then the route is empty and nothing is learned."""
 
     cell: int
-    length: object
-    stop: object
-    expanded: list
-    route: list
-    learned: dict
+    length: Optional[int]
+    stop: Optional[int]
+    expanded: List[int]
+    route: List[int]
+    learned: Dict[int, int]
 
 
 class Cart:
     """Document 01's head and its three buffers; the scratch of the last plan stays to be looked at."""
 
-    def __init__(self, plot):
+    def __init__(self, plot: Plot) -> None:
         self.plot = plot
         self.cell, self.goal = plot.start, plot.goal
         row, column = plot.place(plot.goal)
@@ -31,19 +34,21 @@ class Cart:
         self.ground = [0] * plot.cells
         self.learned = [abs(r - row) + abs(c - column) for r, c in places]
         self.link = [0] * plot.cells
-        self.mark, self.cost, self.trail = [], [], []
+        self.mark: List[int] = []
+        self.cost: List[int] = []
+        self.trail: List[int] = []
 
-    def step(self, cell, direction):
+    def step(self, cell: int, direction: int) -> int:
         return cell + (0, 1, self.plot.width, -1, -self.plot.width)[direction]
 
-    def report(self, blocked):
+    def report(self, blocked: int) -> None:
         self.ground[blocked] = 1
         self.link[blocked] = 0
         for _, beside in self.plot.steps(blocked):
             if self.link[beside] and self.step(beside, self.link[beside]) == blocked:
                 self.link[beside] = 0
 
-    def listed(self, cell):
+    def listed(self, cell: int) -> List[int]:
         """The cells from `cell` to the goal along links, learned falling by exactly 1 at each step; else none."""
         route = [cell]
         while cell != self.goal:
@@ -55,12 +60,12 @@ class Cart:
             cell = after
         return route
 
-    def move(self):
+    def move(self) -> None:
         before = self.cell
         self.cell = self.step(before, self.link[before])
         self.link[before] = 0
 
-    def plan(self):
+    def plan(self) -> Plan:
         stop, taken = self.search()
         # a cell counts once, and only where its mark says so at the end
         expanded = [cell for cell in dict.fromkeys(taken) if self.mark[cell] == EXPANDED]
@@ -74,13 +79,14 @@ class Cart:
         self.link_trail(stop)
         return Plan(self.cell, length, stop, expanded, self.listed(self.cell), raised)
 
-    def search(self):
+    def search(self) -> Tuple[Optional[int], List[int]]:
         """The cell at which the search stops, or None, and the cells that it took before, in order."""
         cells = self.plot.cells
         self.mark, self.cost, self.trail = [UNSEEN] * cells, [UNSEEN_COST] * cells, [0] * cells
         self.mark[self.cell], self.cost[self.cell] = WAITING, 0
         # smallest cost + learned, then the larger cost, then the lower number
-        waiting, taken = [(self.learned[self.cell], 0, self.cell)], []
+        waiting = [(self.learned[self.cell], 0, self.cell)]
+        taken: List[int] = []
         while waiting:
             _, cost, cell = heapq.heappop(waiting)
             # an entry that a cheaper one has overtaken
@@ -92,7 +98,7 @@ class Cart:
             self.expand(cell, waiting)
         return None, taken
 
-    def expand(self, cell, waiting):
+    def expand(self, cell: int, waiting: List[Tuple[int, int, int]]) -> None:
         self.mark[cell] = EXPANDED
         cost = self.cost[cell] + 1
         for direction, beside in self.plot.steps(cell):
@@ -100,7 +106,7 @@ class Cart:
                 self.mark[beside], self.cost[beside], self.trail[beside] = WAITING, cost, direction
                 heapq.heappush(waiting, (cost + self.learned[beside], -cost, beside))
 
-    def link_trail(self, cell):
+    def link_trail(self, cell: int) -> None:
         while cell != self.cell:
             direction = self.trail[cell]
             cell = self.step(cell, (0, 3, 4, 1, 2)[direction])

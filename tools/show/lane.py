@@ -1,20 +1,28 @@
 """The line of a path through cells. It keeps to the right of each cell's middle, as carts do in an aisle, so that
 the way there and the way back stay apart."""
 
+from typing import List, Optional, Sequence, Set, Tuple
 
-def centre(plot, cell, x, y, side):
+from .plot import Plot
+from .shapes import Point
+
+# columns and rows gone
+Way = Tuple[int, int]
+
+
+def centre(plot: Plot, cell: int, x: float, y: float, side: float) -> Point:
     row, column = plot.place(cell)
     return x + (column + 0.5) * side, y + (row + 0.5) * side
 
 
-def headings(plot, path):
-    """Each step of the path as columns and rows gone."""
+def headings(plot: Plot, path: Sequence[int]) -> List[Way]:
+    """Each step of the path."""
     # in a plot one cell wide every step is down or up, and the later entries stand
     gone = {1: (1, 0), -1: (-1, 0), plot.width: (0, 1), -plot.width: (0, -1)}
     return [gone[after - before] for before, after in zip(path, path[1:])]
 
 
-def lane(plot, path, x, y, side, aside=0.0):
+def lane(plot: Plot, path: Sequence[int], x: float, y: float, side: float, aside: float = 0.0) -> List[Point]:
     """The points of the path's line, each `aside` of a cell to the right of the way that the cart goes."""
     ways = headings(plot, path)
     points = []
@@ -27,23 +35,25 @@ def lane(plot, path, x, y, side, aside=0.0):
     return points
 
 
-def corner(came, goes):
+def corner(came: Optional[Way], goes: Optional[Way]) -> List[Way]:
     """How far the line's points in one cell lie off its middle, in lane widths."""
-    if came is None and goes is None:
+    way = came or goes
+    if way is None:
         return [(0, 0)]
     if came is None or goes is None or came == goes:
-        return [to_the_right(came or goes)]
+        return [to_the_right(way)]
     first, second = to_the_right(came), to_the_right(goes)
     if came == (-goes[0], -goes[1]):
         return [first, second]
     return [(first[0] + second[0], first[1] + second[1])]
 
 
-def to_the_right(way):
+def to_the_right(way: Way) -> Way:
     return -way[1], way[0]
 
 
-def arrows(plot, path, x, y, side, aside, every, marked):
+def arrows(plot: Plot, path: Sequence[int], x: float, y: float, side: float, aside: float, every: int,
+           marked: Set[int]) -> List[List[Point]]:
     """Arrowheads on the line, between two cells, some `every` steps apart and clear of marked cells."""
     long, half = max(side * 0.16, 3), max(side * 0.17, 3.2)
     heads, since = [], every // 2

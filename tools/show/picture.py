@@ -3,11 +3,13 @@ and below it what the cart knew and planned at each plan."""
 
 from collections import defaultdict
 from html import escape
+from typing import Iterator, List, Tuple
 
 from . import lane, plans
-from .replay import many
+from .plot import Plot
+from .replay import Drive, many
 from .shapes import (
-    DEFINITIONS, DRIVEN, FONT, GOAL, HEAT, INK, KNOWN, LINE, PAPER, QUIET, START,
+    DEFINITIONS, DRIVEN, FONT, GOAL, HEAT, INK, KNOWN, LINE, PAPER, QUIET, START, Point,
     area, box, cross, diamond, disc, grid, heat, outline, short, stroke, words,
 )
 
@@ -18,7 +20,7 @@ ABOUT = "Nothing is known at first. The cart sees the four cells beside it, and 
 NARROWEST, NUMBERED = 720, 18
 
 
-def picture(drive, name):
+def picture(drive: Drive, name: str) -> str:
     """The SVG's text."""
     plot = drive.plot
     side = cell_side(plot)
@@ -42,12 +44,12 @@ def picture(drive, name):
     return "\n".join(part for part in parts if part) + "\n"
 
 
-def title(drive, name):
+def title(drive: Drive, name: str) -> str:
     ending = "arrived" if drive.arrived else "no way"
     return f"{name}: {ending} after {many(len(drive.path) - 1, 'move')}"
 
 
-def ground(drive, x, y, side):
+def ground(drive: Drive, x: float, y: float, side: float) -> Iterator[str]:
     """The true ground, how often each cell was expanded, and the path driven."""
     plot = drive.plot
     levels = defaultdict(list)
@@ -64,7 +66,7 @@ def ground(drive, x, y, side):
     yield from driven(drive, x, y, side)
 
 
-def driven(drive, x, y, side):
+def driven(drive: Drive, x: float, y: float, side: float) -> Iterator[str]:
     """The path's line with its arrowheads, set off from the cells by a white edge."""
     plot, path = drive.plot, drive.path
     if len(path) == 1:
@@ -77,7 +79,7 @@ def driven(drive, x, y, side):
     yield (f'<path d="{shape}" fill="{DRIVEN}" stroke="{PAPER}" stroke-width="0.8"/>' if shape else "") + "</g>"
 
 
-def marks(drive, x, y, side):
+def marks(drive: Drive, x: float, y: float, side: float) -> Iterator[str]:
     """The start, the goal, where the cart planned again, and where it found no way."""
     plot, places = drive.plot, defaultdict(list)
     for number, plan in enumerate(drive.plans, 1):
@@ -95,12 +97,12 @@ def marks(drive, x, y, side):
         yield cross(*at[drive.path[-1]], max(radius * 0.7, 4))
 
 
-def letter(place, text, fill, side):
+def letter(place: Point, text: str, fill: str, side: float) -> str:
     size = max(side * 0.46, 8)
     return words(place[0], place[1] + size * 0.36, text, size, fill, bold=True, anchor="middle")
 
 
-def replanned(place, numbers, side):
+def replanned(place: Point, numbers: str, side: float) -> str:
     """The plan's number where there is room for it, else a ring."""
     if side < NUMBERED:
         return disc(*place, side * 0.3, PAPER, INK, 1.2)
@@ -110,7 +112,7 @@ def replanned(place, numbers, side):
     return pill + words(place[0], place[1] + size * 0.36, numbers, size, INK, bold=True, anchor="middle")
 
 
-def counts(drive, x, y):
+def counts(drive: Drive, x: float, y: float) -> Tuple[List[str], float]:
     """The drive in numbers, one under the other; and where they end."""
     parts = []
     for name, number in drive.counts():
@@ -120,7 +122,7 @@ def counts(drive, x, y):
     return parts, y
 
 
-def legend(drive, x, y):
+def legend(drive: Drive, x: float, y: float) -> Tuple[List[str], float]:
     parts = [f'<path d="M{short(x)} {short(y - 10)}h{PANEL}" stroke="{LINE}"/>']
     middle, wide = x + 18, 36
     rows = [
@@ -143,12 +145,12 @@ def legend(drive, x, y):
     return parts, y + 58
 
 
-def cell_side(plot):
+def cell_side(plot: Plot) -> int:
     """Room for the marks even in the largest plot, and no more than a small one needs."""
     return max(13, min(48, 640 // plot.width, 480 // plot.height))
 
 
-def sample_line(x, y, wide):
+def sample_line(x: float, y: float, wide: int) -> str:
     line = stroke(f"M{short(x)} {short(y)}h{wide}", DRIVEN, 3)
     tip = x + wide / 2 + 5
     return line + f'<path d="M{short(tip)} {short(y)}l-10 -6v12Z" fill="{DRIVEN}" stroke="{PAPER}" stroke-width="0.8"/>'

@@ -1,8 +1,10 @@
 """The lower part of the picture: small maps of what the cart knew when it planned, the route that it planned and the cells
 that it expanded for it."""
 
+from typing import Iterator, List, Tuple
+
 from . import lane
-from .replay import many
+from .replay import Drive, Knowing, many
 from .shapes import (
     DRIVEN, HEAT, INK, KNOWN, LINE, PAPER, QUIET, ROUTE,
     area, box, cross, diamond, disc, outline, short, stroke, words,
@@ -12,7 +14,7 @@ ENOUGH, GAP, ABOVE, BELOW = 8, 20, 37, 22
 EXPANDED, NOT_KNOWN = HEAT[1][1], "url(#fine)"
 
 
-def strip(drive, x, y, wide):
+def strip(drive: Drive, x: float, y: float, wide: float) -> Tuple[List[str], float]:
     """The small maps in rows, from `y` down; and where they end."""
     if not drive.plans:
         return [], y
@@ -34,14 +36,14 @@ def strip(drive, x, y, wide):
     return parts, y + rows * each_high - BELOW
 
 
-def choose(plans, most):
+def choose(plans: List[Tuple[int, Knowing]], most: int) -> List[Tuple[int, Knowing]]:
     """All of them, or as many as fill whole rows, from the first to the last, evenly spread."""
     if len(plans) <= most:
         return plans
     return [plans[place * (len(plans) - 1) // (most - 1)] for place in range(most)]
 
 
-def small(drive, number, told, x, y, side):
+def small(drive: Drive, number: int, told: Knowing, x: float, y: float, side: float) -> Iterator[str]:
     plan, path, known = told
     plot = drive.plot
     blocked = {cell for cell in range(plot.cells) if plot.blocked[cell]}
@@ -65,7 +67,7 @@ def small(drive, number, told, x, y, side):
     yield disc(*at, max(3.4, side * 0.42), DRIVEN, INK, 1) if plan.route else cross(*at, max(3, side * 0.4))
 
 
-def legend(x, y, wide):
+def legend(x: float, y: float, wide: float) -> Tuple[List[str], float]:
     """What the small maps' shapes mean, in as many lines as it takes; and where the last stands."""
     entries = [
         (box(x, y - 10, 18, 12, KNOWN), "known blocked"),

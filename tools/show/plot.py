@@ -1,6 +1,8 @@
 """A drawing of a plot, read in document 01's form and no other, and in plain words what is wrong with one that is not."""
 
 from dataclasses import dataclass
+from pathlib import Path
+from typing import Iterator, List, Tuple, Union
 
 MAX_SIDE = 64
 # a first line of four numbers, and rows with their line feeds
@@ -19,17 +21,17 @@ class Plot:
     height: int
     start: int
     goal: int
-    blocked: tuple
+    blocked: Tuple[bool, ...]
 
     @property
-    def cells(self):
+    def cells(self) -> int:
         return self.width * self.height
 
-    def place(self, cell):
+    def place(self, cell: int) -> Tuple[int, int]:
         """Row and column, from 0."""
         return divmod(cell, self.width)
 
-    def steps(self, cell):
+    def steps(self, cell: int) -> Iterator[Tuple[int, int]]:
         """The directions that do not leave the plot, in their order, each with the cell it leads to."""
         row, column = self.place(cell)
         if column + 1 < self.width:
@@ -42,7 +44,7 @@ class Plot:
             yield 4, cell - self.width
 
 
-def load(path):
+def load(path: Union[str, Path]) -> bytes:
     """The bytes of a drawing's file; no more are read than tell that it is too long."""
     try:
         with open(path, "rb") as file:
@@ -54,7 +56,7 @@ def load(path):
     return drawing
 
 
-def read(drawing):
+def read(drawing: bytes) -> Plot:
     """The plot of a drawing's bytes, or BadDrawing with the line and column where its form is broken."""
     first, feed, rest = drawing.decode("latin-1").partition("\n")
     width, height, start, goal = first_line(first)
@@ -67,7 +69,7 @@ def read(drawing):
     return Plot(width, height, start, goal, blocked)
 
 
-def first_line(line):
+def first_line(line: str) -> List[int]:
     words = line.split(" ")
     if len(words) != 4:
         raise BadDrawing("line 1, column 1: four numbers one space apart are wanted, 'W H start goal'")
@@ -86,7 +88,7 @@ def first_line(line):
     return numbers
 
 
-def number(word, column):
+def number(word: str, column: int) -> int:
     plain = word != "" and all(letter in "0123456789" for letter in word)
     if not plain or (word[0] == "0" and word != "0"):
         raise BadDrawing(f"line 1, column {column}: {ascii(word[:12])} is no decimal number without leading zeros")
@@ -95,9 +97,9 @@ def number(word, column):
     return int(word)
 
 
-def rows(text, width, height):
+def rows(text: str, width: int, height: int) -> Tuple[bool, ...]:
     """Exactly `height` rows of `width` characters, each with its line feed, and nothing after."""
-    blocked = []
+    blocked: List[bool] = []
     for line in range(2, height + 2):
         row, feed, text = text.partition("\n")
         if not row and not feed:
@@ -111,7 +113,7 @@ def rows(text, width, height):
     return tuple(blocked)
 
 
-def one_row(row, line, width):
+def one_row(row: str, line: int, width: int) -> None:
     for column, letter in enumerate(row[:width], 1):
         if letter not in ".#":
             raise BadDrawing(f"line {line}, column {column}: {ascii(letter)} is neither '.' nor '#'")

@@ -2,11 +2,11 @@
 and what it prints for a drawing."""
 
 import os
-import platform
 import shutil
 import subprocess
 import sys
 from pathlib import Path
+from typing import List, Sequence
 
 # far more than any drive takes under an emulator
 PATIENCE = 600
@@ -21,29 +21,20 @@ class Failed(Exception):
     """How the drive program ended other than it should, in one line."""
 
 
-def proved(root):
-    """The words that start the proved program, as examples/run starts one: over the kit's loader and C library."""
+def proved(root: Path) -> List[str]:
+    """The words that start the proved program, over the kit's loader and C library."""
     if not shutil.which("rt"):
         raise NoProgram("the Rattle kit's command 'rt' is not here; --drive PROGRAM names another drive program")
-    program = root / "target" / "bin" / "drive"
-    if not program.exists() or older(program, root / "crates"):
+    kit, program = str(root / "tools" / "kit.sh"), root / "target" / "bin" / "drive"
+    if subprocess.run([kit, "fresh", str(program)]).returncode != 0:
         build(root)
-    kit = Path(run_kit(root, "doc")).parent.parent
-    tools = kit / "on" / platform.machine() / "toolchain"
-    emulator = tools / "bin" / "qemu-x86_64"
-    first = [str(emulator)] if emulator.exists() else []
-    return first + [str(tools / "lib" / "ld-linux-x86-64.so.2"), "--library-path", str(tools / "lib"), str(program)]
+    return said(root, kit, "words", str(program)).splitlines()
 
 
-def older(program, crates):
-    built = program.stat().st_mtime
-    return any(path.stat().st_mtime > built for path in crates.rglob("*"))
-
-
-def build(root):
+def build(root: Path) -> None:
     words = "show: building the proved drive program (rt check drive), which takes some minutes from nothing"
     print(words, file=sys.stderr, flush=True)
-    run_kit(root, "check", "drive")
+    said(root, "rt", "check", "drive")
     program = root / "target" / "bin" / "drive"
     if not program.exists():
         raise NoProgram("'rt check drive' wrote no target/bin/drive")
@@ -51,23 +42,24 @@ def build(root):
     program.touch()
 
 
-def run_kit(root, *arguments):
-    ended = subprocess.run(["rt", *arguments], cwd=root, stdout=subprocess.PIPE, stderr=subprocess.STDOUT)
-    said = ended.stdout.decode("utf-8", "replace").strip()
+def said(root: Path, *words: str) -> str:
+    """What a command says, or NoProgram where it fails."""
+    ended = subprocess.run(words, cwd=root, stdout=subprocess.PIPE, stderr=subprocess.STDOUT)
+    text = ended.stdout.decode("utf-8", "replace").strip()
     if ended.returncode != 0:
-        last = said.splitlines()[-1] if said else "it said nothing"
-        raise NoProgram(f"'rt {' '.join(arguments)}' ended with status {ended.returncode}: {last}")
-    return said
+        last = text.splitlines()[-1] if text else "it said nothing"
+        raise NoProgram(f"'{' '.join(words)}' ended with status {ended.returncode}: {last}")
+    return text
 
 
-def named(program):
+def named(program: str) -> List[str]:
     """The words that start a program named on the command line; a name without a slash is a file here too."""
     if not os.path.isfile(program) or not os.access(program, os.X_OK):
         raise NoProgram(f"{program}: no program that can be started")
     return [os.path.abspath(program)]
 
 
-def printed(words, drawing):
+def printed(words: Sequence[str], drawing: bytes) -> str:
     """What the program prints for a drawing."""
     try:
         ended = subprocess.run(words, input=drawing, stdout=subprocess.PIPE, stderr=subprocess.PIPE, timeout=PATIENCE)

@@ -3,8 +3,13 @@ shows nothing that the program did not do."""
 
 from collections import Counter, deque
 from dataclasses import dataclass
+from typing import Iterator, List, Optional, Set, Tuple, Union
 
-from .cart import Cart
+from .cart import Cart, Plan
+from .plot import Plot
+
+# a plan, with the path driven before it and the cells known blocked then
+Knowing = Tuple[Plan, List[int], Set[int]]
 
 
 class Disagreement(Exception):
@@ -17,11 +22,11 @@ class Step:
 
     line: str
     cell: int
-    reported: object = None
-    plan: object = None
+    reported: Optional[int] = None
+    plan: Optional[Plan] = None
 
 
-def turns(plot):
+def turns(plot: Plot) -> Iterator[Step]:
     """Document 01's drive: look, report, end or plan, move."""
     cart, moves = Cart(plot), 0
     while True:
@@ -43,9 +48,10 @@ def turns(plot):
         yield Step(f"move {cart.cell}", cart.cell)
 
 
-def replay(plot, printed):
+def replay(plot: Plot, printed: str) -> "Drive":
     """The whole drive, once each line of `printed` is found to be the one that document 01 gives."""
-    lines, steps = printed.split("\n"), []
+    lines = printed.split("\n")
+    steps: List[Step] = []
     ended = lines[-1] == ""
     if ended:
         lines.pop()
@@ -66,7 +72,7 @@ def replay(plot, printed):
 class Drive:
     """A drive's steps, and what a reader wants to know of it as a whole."""
 
-    def __init__(self, plot, steps):
+    def __init__(self, plot: Plot, steps: List[Step]) -> None:
         self.plot, self.steps = plot, steps
         self.path = [plot.start] + [step.cell for step in steps if step.line.startswith("move")]
         self.known = {step.reported for step in steps if step.reported is not None}
@@ -74,7 +80,7 @@ class Drive:
         self.arrived = self.path[-1] == plot.goal
         self.times = Counter(cell for plan in self.plans for cell in plan.expanded)
 
-    def counts(self):
+    def counts(self) -> List[Tuple[str, Union[int, str]]]:
         """Words and numbers, in the order in which every view shows them."""
         moves, shortest = len(self.path) - 1, fewest(self.plot)
         return [
@@ -85,9 +91,10 @@ class Drive:
             ("cells expanded, in all plans", sum(self.times.values())),
         ]
 
-    def until_plans(self):
-        """For each plan: the path driven before it and the cells known blocked then."""
-        path, known = [self.plot.start], set()
+    def until_plans(self) -> Iterator[Knowing]:
+        """Each plan, with what the cart had driven and knew then."""
+        path = [self.plot.start]
+        known: Set[int] = set()
         for step in self.steps:
             if step.plan:
                 yield step.plan, list(path), set(known)
@@ -97,11 +104,11 @@ class Drive:
                 path.append(step.cell)
 
 
-def many(number, thing):
+def many(number: int, thing: str) -> str:
     return f"{number} {thing}" if number == 1 else f"{number} {thing}s"
 
 
-def fewest(plot):
+def fewest(plot: Plot) -> Optional[int]:
     """The fewest steps over the true ground, or None."""
     far, waiting = {plot.start: 0}, deque([plot.start])
     while waiting:

@@ -2,6 +2,11 @@
 whatever matters differs in shape, hatch or lightness too."""
 
 from html import escape
+from typing import Iterable, Tuple
+
+from .plot import Plot
+
+Point = Tuple[float, float]
 
 INK, QUIET, LINE, PAPER = "#222222", "#5a5a5a", "#e2e2e2", "#ffffff"
 KNOWN, UNKNOWN = "#3d3d3d", "#8c8c8c"
@@ -11,7 +16,7 @@ HEAT = (("1", "#DDEFFB"), ("2", "#B0D9F5"), ("3 to 5", "#79BFEC"), ("6 or more",
 FONT = "system-ui, -apple-system, 'Segoe UI', Helvetica, Arial, 'DejaVu Sans', sans-serif"
 
 
-def hatch(name, gap, thick, colour):
+def hatch(name: str, gap: float, thick: float, colour: str) -> str:
     """A hatch with nothing between its lines, so that one sees below it whether a cell was expanded."""
     return (
         f'<pattern id="{name}" width="{gap}" height="{gap}" patternUnits="userSpaceOnUse" patternTransform="rotate(45)">'
@@ -22,56 +27,56 @@ def hatch(name, gap, thick, colour):
 DEFINITIONS = "<defs>" + hatch("hatch", 5, 1.6, UNKNOWN) + hatch("fine", 3, 1.1, "#b4b4b4") + "</defs>"
 
 
-def heat(times):
+def heat(times: int) -> str:
     return HEAT[0 if times < 2 else 1 if times < 3 else 2 if times < 6 else 3][1]
 
 
-def short(number):
+def short(number: float) -> str:
     """A coordinate with at most two decimals."""
     return f"{number:.2f}".rstrip("0").rstrip(".")
 
 
-def words(x, y, text, size=13, fill=INK, bold=False, anchor="start"):
+def words(x: float, y: float, text: str, size: float = 13, fill: str = INK, bold: bool = False, anchor: str = "start") -> str:
     weight = ' font-weight="600"' if bold else ""
     place = "" if anchor == "start" else f' text-anchor="{anchor}"'
     return f'<text x="{short(x)}" y="{short(y)}" font-size="{short(size)}" fill="{fill}"{weight}{place}>{escape(text)}</text>'
 
 
-def box(x, y, width, height, fill, stroke="none", round_by=0):
+def box(x: float, y: float, width: float, height: float, fill: str, stroke: str = "none", round_by: float = 0) -> str:
     corner = f' rx="{short(round_by)}"' if round_by else ""
     edge = "" if stroke == "none" else f' stroke="{stroke}"'
     size = f'width="{short(width)}" height="{short(height)}"'
     return f'<rect x="{short(x)}" y="{short(y)}" {size}{corner} fill="{fill}"{edge}/>'
 
 
-def disc(x, y, radius, fill, stroke=PAPER, thick=1.5):
+def disc(x: float, y: float, radius: float, fill: str, stroke: str = PAPER, thick: float = 1.5) -> str:
     edge = f'stroke="{stroke}" stroke-width="{short(thick)}"'
     return f'<circle cx="{short(x)}" cy="{short(y)}" r="{short(radius)}" fill="{fill}" {edge}/>'
 
 
-def diamond(x, y, radius):
+def diamond(x: float, y: float, radius: float) -> str:
     """The goal's mark."""
     corners = ((x, y - radius), (x + radius, y), (x, y + radius), (x - radius, y))
     return f'<path d="{outline(corners)}Z" fill="{GOAL}" stroke="{INK}" stroke-width="{short(max(1, radius / 8))}"/>'
 
 
-def cross(x, y, radius):
+def cross(x: float, y: float, radius: float) -> str:
     """The mark of a cart that has no way."""
     arms = "".join(outline(((x - radius, y - down), (x + radius, y + down))) for down in (radius, -radius))
     return stroke(arms, PAPER, radius / 1.6 + 3) + stroke(arms, INK, radius / 1.6)
 
 
-def outline(points):
+def outline(points: Iterable[Point]) -> str:
     return "M" + "L".join(f"{short(x)} {short(y)}" for x, y in points)
 
 
-def stroke(path, colour, thick, dashes=""):
+def stroke(path: str, colour: str, thick: float, dashes: str = "") -> str:
     dashed = f' stroke-dasharray="{dashes}"' if dashes else ""
     line = f'stroke="{colour}" stroke-width="{short(thick)}" stroke-linejoin="round" stroke-linecap="round"'
     return f'<path d="{path}" fill="none" {line}{dashed}/>'
 
 
-def area(plot, cells, x, y, side, fill):
+def area(plot: Plot, cells: Iterable[int], x: float, y: float, side: float, fill: str) -> str:
     """Whole cells in one fill; those that touch in a row are one piece, so that no seam shows between them."""
     pieces, ordered = [], sorted(cells)
     while ordered:
@@ -84,7 +89,7 @@ def area(plot, cells, x, y, side, fill):
     return f'<path d="{"".join(pieces)}" fill="{fill}"/>' if pieces else ""
 
 
-def grid(plot, x, y, side):
+def grid(plot: Plot, x: float, y: float, side: float) -> str:
     across, down = plot.width * side, plot.height * side
     lines = [f"M{short(x + k * side)} {short(y)}v{short(down)}" for k in range(plot.width + 1)]
     lines += [f"M{short(x)} {short(y + k * side)}h{short(across)}" for k in range(plot.height + 1)]

@@ -1,7 +1,11 @@
 """The drive for a terminal, in plain characters: what the cart knew and planned at each plan of a small plot, the ground with
 the path at the end, and the counts."""
 
-from .replay import many
+from typing import Dict, Iterator, Set
+
+from .cart import Plan
+from .plot import Plot
+from .replay import Drive, many
 
 # a plot with sides or plans beyond these has its last map only
 WIDEST, HIGHEST, MOST_PLANS = 40, 24, 12
@@ -15,7 +19,7 @@ AT_PLANS = "@ cart  G goal  * route  + expanded  # known blocked  : not known ye
 AT_END = "S start  G goal  > v < ^ driven  o planned again  # seen  : never seen"
 
 
-def view(drive, name, colour):
+def view(drive: Drive, name: str, colour: bool) -> Iterator[str]:
     """The lines of the whole view."""
     plot = drive.plot
     small = plot.width <= WIDEST and plot.height <= HIGHEST and len(drive.plans) <= MOST_PLANS
@@ -36,7 +40,7 @@ def view(drive, name, colour):
         yield f"{number:>6} {words}"
 
 
-def at_plan(plot, plan, known):
+def at_plan(plot: Plot, plan: Plan, known: Set[int]) -> Dict[int, str]:
     """A character for each cell when the cart planned."""
     drawn = {cell: ":" for cell in range(plot.cells) if plot.blocked[cell]}
     drawn.update((cell, "+") for cell in plan.expanded)
@@ -48,7 +52,7 @@ def at_plan(plot, plan, known):
     return drawn
 
 
-def at_end(drive):
+def at_end(drive: Drive) -> Dict[int, str]:
     """A character for each cell after the drive: of a cell that the cart was on twice, the last way it left."""
     plot = drive.plot
     drawn = {cell: ":" for cell in range(plot.cells) if plot.blocked[cell]}
@@ -63,7 +67,7 @@ def at_end(drive):
     return drawn
 
 
-def framed(plot, drawn, colour):
+def framed(plot: Plot, drawn: Dict[int, str], colour: bool) -> Iterator[str]:
     edge = "+" + "-" * plot.width + "+"
     yield edge
     for row in range(plot.height):
@@ -72,5 +76,5 @@ def framed(plot, drawn, colour):
     yield edge
 
 
-def painted(cell, colour):
+def painted(cell: str, colour: bool) -> str:
     return f"\033[{COLOURS[cell]}m{cell}\033[0m" if colour and cell in COLOURS else cell

@@ -5,13 +5,13 @@ use mathlib.Core.Bool.{Bool, true, not, cond, _&&_}
 use mathlib.Core.List.{List, [], _∷_, _++_}
 use lib.ListN.{getD}
 use lib.Dec.{leb, ltb, eqb}
-use Rattle.plot.specs.Turns.{gathered}
-use Rattle.plot.specs.Plot.{badSides}
-use Rattle.plot.specs.Head.{headAt, cellsOf, cellsNamed}
-use Rattle.plot.specs.Refusals.{anyOutside}
-use Rattle.plot.specs.Record.{same}
-use Rattle.plot.specs.declared.Head.{Head}
-use Rattle.pen.specs.Text.{lineFeed, space, hash, dot, number}
+use Rattle.model.specs.Lists.{gathered}
+use Rattle.model.specs.Plot.{badSides}
+use Rattle.model.specs.Head.{headAt, cellsOf, cellsNamed}
+use Rattle.model.specs.Refusals.{anyOutside}
+use Rattle.model.specs.Record.{same}
+use Rattle.model.specs.declared.Head.{Head}
+use Rattle.printing.specs.Text.{lineFeed, space, hash, dot, number}
 use Rattle.drawing.specs.declared.Drawn.{Drawn}
 
 -- the plot, with the cart on the start, and the true ground: 0 free, 1 blocked

@@ -1,15 +1,15 @@
 // The drawing of a plot: whether some bytes are one, and what it shows. A drawing is read loosely, and written out again as it
 // must look; the bytes are a drawing where the two are the same.
-mod text;
+pub mod text;
 
-use plot::Head;
-use refusals::bad_sides;
-use text::looks_so;
+use crate::text::is_text;
+use model::Head;
 ghost use mathlib.Core.Path.{_≡_};
 ghost use mathlib.Core.Bool.{true};
 ghost use Prim.Native.Nat.{_<_, _≤_, _*_};
-ghost use lib.ListN.{length, drop};
-ghost use Rattle.plot.specs.Turns.{filled};
+ghost use lib.ListN.{length};
+ghost use Rattle.model.specs.Lists.{filled};
+ghost use Rattle.model.specs.Plot.{maxCells};
 ghost use Rattle.drawing.specs.Drawing.{isDigit, grown, truthAt, truthIn, Drew};
 ghost use Rattle.drawing.specs.Reading.{Numbered, Headed, onPlot};
 
@@ -81,7 +81,7 @@ fn first_line(bytes: &[u8]) -> FirstLine
 fn on_plot(head: Head) -> bool
     ensures { λ r. ⌜ r ≡ onPlot head ⌝ }
 {
-    if bad_sides(head.width, head.height) {
+    if Head::bad_sides(head.width, head.height) {
         return false;
     }
     let n = head.width * head.height;
@@ -99,8 +99,8 @@ fn truth_at(rows: &[u8], at: usize) -> u8
 }
 
 // The true ground of the first n cells, out of rows of w characters and a line feed.
-fn lay_truth(rows: &[u8], w: usize, n: usize, truth: &mut [u8])
-    requires { ⌜ (0 < w) × (n ≤ 4096) × (n ≤ length (now truth)) ⌝ }
+fn fill_truth(rows: &[u8], w: usize, n: usize, truth: &mut [u8])
+    requires { ⌜ (0 < w) × (n ≤ maxCells) × (n ≤ length (now truth)) ⌝ }
     ensures { λ _. ⌜ now (truth .exit) ≡ filled n (truthIn w (now (rows .entry))) (now (truth .entry)) ⌝ }
 {
     let mut c = 0;
@@ -112,7 +112,7 @@ fn lay_truth(rows: &[u8], w: usize, n: usize, truth: &mut [u8])
 
 // Whether the bytes are a drawing: then its true ground is left in truth.
 pub fn read(bytes: &[u8], truth: &mut [u8]) -> Drawn
-    requires { ⌜ 4096 ≤ length (now truth) ⌝ }
+    requires { ⌜ maxCells ≤ length (now truth) ⌝ }
     ensures { λ r. ⌜ Drew (now (bytes .entry)) r (now (truth .exit)) ⌝ }
 {
     let found = first_line(bytes);
@@ -121,12 +121,12 @@ pub fn read(bytes: &[u8], truth: &mut [u8]) -> Drawn
         return Drawn::Bad;
     }
     let rows = found.rows;
-    lay_truth(&bytes[rows..], head.width, head.width * head.height, truth);
+    fill_truth(&bytes[rows..], head.width, head.width * head.height, truth);
     let start = head.cell;
     if truth[start] != 0 {
         return Drawn::Bad;
     }
-    if looks_so(bytes, head, truth) {
+    if is_text(bytes, head, truth) {
         return Drawn::Plot(head);
     }
     Drawn::Bad

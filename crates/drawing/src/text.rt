@@ -1,18 +1,24 @@
 // A drawing as it must look, and whether bytes look so.
-use pen::put_byte;
-use pen::put_number;
-use plot::Head;
+use model::Head;
+use printing::put_byte;
+use printing::put_number;
 ghost use mathlib.Core.Path.{_≡_};
 ghost use mathlib.Core.Bool.{false};
 ghost use Prim.Native.Nat.{_+_, _*_, _≤_, _<_};
-ghost use lib.ListN.{length, take, getD};
-ghost use Rattle.plot.specs.Turns.{gathered};
-ghost use Rattle.plot.specs.Plot.{badSides};
-ghost use Rattle.plot.specs.Head.{cellsOf};
-ghost use Rattle.plot.specs.Record.{same};
-ghost use Rattle.pen.specs.Text.{Penned};
+ghost use lib.ListN.{length, take};
+ghost use Rattle.model.specs.Lists.{gathered};
+ghost use Rattle.model.specs.Plot.{badSides};
+ghost use Rattle.model.specs.Head.{cellsOf};
+ghost use Rattle.model.specs.Record.{same};
+ghost use Rattle.printing.specs.Text.{Put};
 ghost use Rattle.drawing.specs.Drawing.{character, rowText, text};
 ghost use Rattle.drawing.specs.Reading.{Drawable, drawnAs};
+
+// The rows of the largest plot, each with a line feed.
+pub const ROWS: usize = Head::MAX_SIDE * (Head::MAX_SIDE + 1);
+
+// Room for any drawing: four numbers of up to 20 digits, each with a character behind it, and the rows.
+const ROOM: usize = 4 * 21 + ROWS;
 
 fn character(truth: u8) -> u8
     ensures { λ r. ⌜ r ≡ character truth ⌝ }
@@ -22,7 +28,7 @@ fn character(truth: u8) -> u8
 
 fn put_row(out: &mut [u8], at: usize, w: usize, truth: &[u8], row: usize) -> usize
     requires { ⌜ (at + w < length (now out)) × (row * w + w ≤ length (now truth)) ⌝ }
-    ensures { λ r. ⌜ Penned at (rowText w (now (truth .entry)) row) (now (out .entry)) r (now (out .exit)) ⌝ }
+    ensures { λ r. ⌜ Put at (rowText w (now (truth .entry)) row) (now (out .entry)) r (now (out .exit)) ⌝ }
 {
     let first = row * w;
     let mut next = at;
@@ -36,7 +42,7 @@ fn put_row(out: &mut [u8], at: usize, w: usize, truth: &[u8], row: usize) -> usi
 
 fn put_rows(out: &mut [u8], at: usize, w: usize, h: usize, truth: &[u8]) -> usize
     requires { ⌜ (at + h * (w + 1) ≤ length (now out)) × (h * w ≤ length (now truth)) ⌝ }
-    ensures { λ r. ⌜ Penned at (gathered h (rowText w (now (truth .entry)))) (now (out .entry)) r (now (out .exit)) ⌝ }
+    ensures { λ r. ⌜ Put at (gathered h (rowText w (now (truth .entry)))) (now (out .entry)) r (now (out .exit)) ⌝ }
 {
     let mut next = at;
     let mut row = 0;
@@ -49,7 +55,7 @@ fn put_rows(out: &mut [u8], at: usize, w: usize, h: usize, truth: &[u8]) -> usiz
 
 fn put_text(out: &mut [u8], head: Head, truth: &[u8]) -> usize
     requires { ⌜ Drawable head (now truth) (now out) ⌝ }
-    ensures { λ r. ⌜ Penned 0 (text (drawnAs head (now (truth .entry)))) (now (out .entry)) r (now (out .exit)) ⌝ }
+    ensures { λ r. ⌜ Put 0 (text (drawnAs head (now (truth .entry)))) (now (out .entry)) r (now (out .exit)) ⌝ }
 {
     let width = put_number(out, 0, head.width, 32);
     let height = put_number(out, width, head.height, 32);
@@ -77,11 +83,11 @@ fn same_text(bytes: &[u8], text: &[u8], n: usize) -> bool
 }
 
 // Whether the bytes are the text of this drawing.
-pub fn looks_so(bytes: &[u8], head: Head, truth: &[u8]) -> bool
+pub fn is_text(bytes: &[u8], head: Head, truth: &[u8]) -> bool
     requires { ⌜ (badSides (head .width) (head .height) ≡ false) × (cellsOf head ≤ length (now truth)) ⌝ }
     ensures { λ r. ⌜ r ≡ same (now (bytes .entry)) (text (drawnAs head (now (truth .entry)))) ⌝ }
 {
-    let mut out = [0u8; 4244];
+    let mut out = [0u8; ROOM];
     let end = put_text(&mut out, head, truth);
     same_text(bytes, &out, end)
 }

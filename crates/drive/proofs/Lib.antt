@@ -1,1 +1,2 @@
-pub mod Telling
+-- The loop of the program.
+pub mod DriveLoop

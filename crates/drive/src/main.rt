@@ -1,29 +1,36 @@
 // Drives a cart over a drawn plot: reads the drawing from standard input, and writes what the drive says, line by line.
-use calls::layout;
+use calls::layout::layout;
+use checks::plan_check;
 use drawing::Drawn;
 use drawing::read;
-use lines::is_last;
-use lines::put_line;
-use plot::Head;
-use plot::Verdict;
-use refusals::plan_check;
-use tour::turn;
+use drawing::text::ROWS;
+use model::Head;
+use model::Verdict;
+use printing::lines::LONGEST_LINE;
+use printing::lines::is_last;
+use printing::lines::put_line;
+use turn::turn;
 ghost use mathlib.Core.Path.{_≡_};
 ghost use Prim.Native.Nat.{_+_, _<_, _≤_};
 ghost use lib.ListN.{length};
-ghost use Rattle.plot.specs.Lent.{lentWith, scratchWith};
-ghost use Rattle.plot.specs.Plan.{planCheck};
-ghost use Rattle.plot.specs.declared.Verdict.the-variants.{Accepted};
+ghost use Rattle.model.specs.Plot.{maxCells};
+ghost use Rattle.model.specs.Lent.{lentNow, scratchNow};
+ghost use Rattle.model.specs.Plan.{planCheck};
+ghost use Rattle.model.specs.declared.Verdict.the-variants.{Accepted};
+ghost use Rattle.printing.specs.Lines.{longestLine};
 
-// The longest drawing: "64 64 4095 4095", and 64 rows of 64 characters, each with a line feed.
-const LONGEST: usize = 4176;
+// The longest drawing: "64 64 4095 4095" and a line feed, and the rows.
+const LONGEST: usize = 16 + ROWS;
+
+// So many bytes may wait to be written.
+const WAITING: usize = 8192;
 
 // Writes the first bytes where there may be no room for one more line, and answers how many wait then.
 fn flush(out: &[u8], waiting: usize) -> usize
-    requires { ⌜ (waiting ≤ length (now out)) × (8192 ≡ length (now out)) ⌝ }
-    ensures { λ r. ⌜ r + 50 ≤ 8192 ⌝ }
+    requires { ⌜ (waiting ≤ length (now out)) × (longestLine ≤ length (now out)) ⌝ }
+    ensures { λ r. ⌜ r + longestLine ≤ length (now (out .entry)) ⌝ }
 {
-    if 8142 < waiting {
+    if out.len() - LONGEST_LINE < waiting {
         io::write_all(1, &out[..waiting]);
         return 0;
     }
@@ -41,14 +48,14 @@ fn tell(
     cost: &mut [u16],
     trail: &mut [u8],
 )
-    requires { ⌜ (planCheck head (lentWith (now ground) (now learned) (now link)) (scratchWith (now mark) (now cost) (now trail)) ≡ Accepted)
-        × (4096 ≤ length (now truth)) ⌝ }
+    requires { ⌜ (planCheck head (lentNow ground learned link) (scratchNow mark cost trail) ≡ Accepted)
+        × (maxCells ≤ length (now truth)) ⌝ }
 {
-    let mut heap = [0u64; 4100];
-    let mut place = [0u16; 4096];
-    let mut gone = [0u8; 4096];
-    let mut list = [0u16; 4096];
-    let mut out = [0u8; 8192];
+    let mut heap = [0u64; queue::ROOM];
+    let mut place = [0u16; Head::MAX_CELLS];
+    let mut gone = [0u8; Head::MAX_CELLS];
+    let mut list = [0u16; Head::MAX_CELLS];
+    let mut out = [0u8; WAITING];
     let mut waiting = 0;
     let mut now = head;
     let mut moves = 0;
@@ -81,14 +88,14 @@ fn tell(
 
 // A cart that knows nothing of the ground: soundness is tested once, and then the cores are used.
 fn drive(head: Head, truth: &[u8])
-    requires { ⌜ 4096 ≤ length (now truth) ⌝ }
+    requires { ⌜ maxCells ≤ length (now truth) ⌝ }
 {
-    let mut ground = [0u8; 4096];
-    let mut learned = [0u16; 4096];
-    let mut link = [0u8; 4096];
-    let mut mark = [0u8; 4096];
-    let mut cost = [0u16; 4096];
-    let mut trail = [0u8; 4096];
+    let mut ground = [0u8; Head::MAX_CELLS];
+    let mut learned = [0u16; Head::MAX_CELLS];
+    let mut link = [0u8; Head::MAX_CELLS];
+    let mut mark = [0u8; Head::MAX_CELLS];
+    let mut cost = [0u16; Head::MAX_CELLS];
+    let mut trail = [0u8; Head::MAX_CELLS];
     let laid = layout(
         head.width,
         head.height,
@@ -116,8 +123,8 @@ fn drive(head: Head, truth: &[u8])
 }
 
 fn main() {
-    let mut bytes = [0u8; 4177];
-    let mut truth = [0u8; 4096];
+    let mut bytes = [0u8; LONGEST + 1];
+    let mut truth = [0u8; Head::MAX_CELLS];
     let got = io::read_full(0, &mut bytes);
     if got <= LONGEST {
         let drawn = read(&bytes[..got], &mut truth);

@@ -6,21 +6,21 @@ use mathlib.Core.Logic.{_≢_, _↔_}
 use Prim.Native.Nat.{ℕ, _+_}
 use native.Mathlib.Omega.{arith}
 use lib.ListN.{length, getD}
-use Rattle.plot.specs.Lent.{Lent}
-use Rattle.plot.specs.Route.{route}
-use Rattle.plot.specs.Listing.{AfterList, listed, listNumber}
-use Rattle.plot.specs.Numbers.{reasonNumber, verdictNumber}
-use Rattle.plot.specs.declared.Head.{Head}
-use Rattle.plot.specs.declared.Reason.{Reason}
-use Rattle.plot.specs.declared.Verdict.{Verdict}
-use Rattle.plot.specs.declared.Verdict.the-variants.{Accepted, Refused}
-use Rattle.plot.proofs.Accepting.{not-both}
-use Rattle.plot.proofs.Numbering.{refused-number, some-number}
-use Rattle.plot.proofs.Listing.{ListingOf, list-refused, list-written, list-is, cells-long, question-exactly}
+use Rattle.model.specs.Lent.{Lent}
+use Rattle.model.specs.Route.{route}
+use Rattle.model.specs.Listing.{AfterList, listed, listNumber}
+use Rattle.model.specs.Numbers.{reasonNumber, verdictNumber}
+use Rattle.model.specs.declared.Head.{Head}
+use Rattle.model.specs.declared.Reason.{Reason}
+use Rattle.model.specs.declared.Verdict.{Verdict}
+use Rattle.model.specs.declared.Verdict.the-variants.{Accepted, Refused}
+use Rattle.model.proofs.Calls.Acceptance.{not-both}
+use Rattle.model.proofs.Calls.ReasonNumbers.{refused-number, some-number}
+use Rattle.model.proofs.Calls.ListLaws.{ListingOf, list-refused, list-written, list-is, cells-long, question-exactly}
 use Rattle.promises.specs.Asking.{Ask, Result, result, lent, left, number, headIn, headOut}
 use Rattle.promises.specs.Table.{Rows}
-use Rattle.promises.proofs.Verdicts.{verdict, follows}
-use Rattle.promises.proofs.Ending.{Ends, accepts, refuses, ends}
+use Rattle.promises.proofs.VerdictRows.{verdict, follows}
+use Rattle.promises.proofs.CallEndings.{Ends, accepts, refuses, ends}
 
 -- "Every call takes every input and ends": the definition gives a result for every call and every input, and what a contract
 -- allows is that result alone. (That contracts are these equations is said beside each call by its coinciding law; `list`, which

@@ -8,32 +8,33 @@ use native.Mathlib.Nat.{le-trans}
 use native.Mathlib.Omega.{arith}
 use Rattle.walks.specs.Walk.{Walk, stay, step}
 use Rattle.walks.proofs.Walks.{admissible}
-use Rattle.plot.specs.Plot.{free}
-use Rattle.plot.specs.Lent.{Lent, Scratch}
-use Rattle.plot.specs.Head.{cellsOf}
-use Rattle.plot.specs.Layout.{laidOut}
-use Rattle.plot.specs.Report.{reported}
-use Rattle.plot.specs.Plan.{planCheck, planned}
-use Rattle.plot.specs.Ways.{Adj, Shortest}
-use Rattle.plot.specs.declared.Head.{Head}
-use Rattle.plot.specs.declared.Verdict.the-variants.{Accepted}
-use Rattle.plot.specs.declared.Outcome.{Outcome}
-use Rattle.plot.proofs.Fit.{Held}
-use Rattle.plot.proofs.Accepting.{not-both, accepts-held, held-accepts}
-use Rattle.plot.proofs.Geometry.{allowed-here, allowed-on, allowed-free, allow}
-use Rattle.plot.proofs.Sameness.{allowed-same}
-use Rattle.plot.proofs.Soundness.{fit-consistent}
-use Rattle.plot.proofs.LayingOut.{fresh-is-accepted}
-use Rattle.plot.proofs.Answering.{Says, plan-is-true, true-is-planned}
-use Rattle.plot.proofs.Keeping.{plan-keeps}
-use Rattle.plot.proofs.Commuting.{report-keeps, reports-commute}
-use Rattle.plot.proofs.Moving.{move-keeps}
+use Rattle.model.specs.Plot.{free}
+use Rattle.model.specs.Lent.{Lent, Scratch}
+use Rattle.model.specs.Head.{cellsOf}
+use Rattle.model.specs.Layout.{laidOut}
+use Rattle.model.specs.Report.{reported}
+use Rattle.model.specs.Plan.{planCheck, planned}
+use Rattle.model.specs.Ways.{Adj, Shortest}
+use Rattle.model.specs.declared.Head.{Head}
+use Rattle.model.specs.declared.Verdict.the-variants.{Accepted}
+use Rattle.model.specs.declared.Outcome.{Outcome}
+use Rattle.model.specs.Fit.{Held}
+use Rattle.model.proofs.Calls.Acceptance.{not-both, accepts-held, held-accepts}
+use Rattle.model.proofs.Grid.Geometry.{allowed-here, allowed-on, allowed-free, allow}
+use Rattle.model.proofs.Calls.FirstEntries.{allowed-same}
+use Rattle.model.proofs.Calls.Soundness.{fit-consistent}
+use Rattle.model.proofs.Calls.LayoutLaws.{fresh-is-accepted}
+use Rattle.model.proofs.Calls.PlanAnswers.{Says, plan-is-true, true-is-planned}
+use Rattle.model.proofs.Calls.PlanKeeps.{plan-keeps}
+use Rattle.model.proofs.Calls.ReportsCommute.{report-keeps, reports-commute}
+use Rattle.model.proofs.Calls.MoveLaws.{move-keeps}
 use Rattle.promises.specs.Using.{Cart, Fits, Call, report, plan, move, next, afterAll, laid, learnt, SameGround}
 
 -- Two carts ---------------------------------------------------------------------------------------------------------------------------
 
 -- ways over the same ground are the same
-adj-same : (head : Head) (p q : Lent) → SameGround head p q → {x y : ℕ} → Adj (head .width) (head .height) (p .ground) x y → Adj (head .width) (head .height) (q .ground) x y
+adj-same : (head : Head) (p q : Lent) → SameGround head p q → {x y : ℕ} → Adj (head .width) (head .height) (p .ground) x y
+    → Adj (head .width) (head .height) (q .ground) x y
 adj-same head p q same a =
     let l = a .leg in
     record {
@@ -41,17 +42,20 @@ adj-same head p q same a =
       leg = record { inside = l .inside; may = allowed-same (head .width) (head .height) p q same _ (a .dir) (l .inside) (l .may); lands = l .lands };
     }
 
-way-same : (head : Head) (p q : Lent) → SameGround head p q → {x y n : ℕ} → Walk (Adj (head .width) (head .height) (p .ground)) x y n → Walk (Adj (head .width) (head .height) (q .ground)) x y n
+way-same : (head : Head) (p q : Lent) → SameGround head p q → {x y n : ℕ} → Walk (Adj (head .width) (head .height) (p .ground)) x y n
+    → Walk (Adj (head .width) (head .height) (q .ground)) x y n
 way-same head p q same stay = stay
 way-same head p q same (step a w) = step (adj-same head p q same a) (way-same head p q same w)
 
-module _ (head : Head) (p q : Lent) (s t : Scratch) (ok : planCheck head p s ≡ Accepted) (ok′ : planCheck head q t ≡ Accepted) (same : SameGround head p q) where
+module _ (head : Head) (p q : Lent) (s t : Scratch) (ok : planCheck head p s ≡ Accepted) (ok′ : planCheck head q t ≡ Accepted)
+    (same : SameGround head p q) where
   back : SameGround head q p
   back c i = sym (same c i)
 
   -- what is true of one is true of the other
   carried : (o : Outcome) → Says head p s o → Says head q t o
-  carried (Outcome.Route L) x = (ok′, x .1, record { walk = way-same head p q same (x .2 .walk); least = λ m w. x .2 .least m (way-same head q p back w) })
+  carried (Outcome.Route L) x =
+      (ok′, x .1, record { walk = way-same head p q same (x .2 .walk); least = λ m w. x .2 .least m (way-same head q p back w) })
   carried Outcome.NoWay x = (ok′, λ n w. x .1 n (way-same head q p back w))
   carried Outcome.Arrived x = (ok′, x .1)
   carried (Outcome.Refused why) x = absurd (not-both x ok)
@@ -59,7 +63,8 @@ module _ (head : Head) (p q : Lent) (s t : Scratch) (ok : planCheck head p s ≡
   -- "Take two carts whose data are accepted, with the same plot, known ground, cell and goal, and learned distances and kept
   -- steps that may differ. Both state the same length, or both say no way, or both have arrived": one answer, which is true of
   -- both (Says: a length is the fewest steps, no way is that there is none, arrived is on the goal).
-  pub two-carts-one-answer : (o : Outcome) × (planned head p s .answer .outcome ≡ o) × (planned head q t .answer .outcome ≡ o) × Says head p s o × Says head q t o
+  pub two-carts-one-answer : (o : Outcome) × (planned head p s .answer .outcome ≡ o) × (planned head q t .answer .outcome ≡ o) × Says head p s o
+      × Says head q t o
   two-carts-one-answer =
       let o = planned head p s .answer .outcome in
       let says = plan-is-true head p s in
@@ -82,7 +87,8 @@ pub never-found-unfit : (k : Cart) (calls : List Call) → Fits k → Fits (afte
 never-found-unfit k calls e = held-accepts _ _ (held-after calls k (accepts-held (k .head) (k .held) e))
 
 -- "On one cart, reports made one right after another leave the same bytes in either order."
-pub reports-in-either-order : (head : Head) (p : Lent) (c d : ℕ) → reported head (reported head p c .lists) d .lists ≡ reported head (reported head p d .lists) c .lists
+pub reports-in-either-order : (head : Head) (p : Lent) (c d : ℕ) → reported head (reported head p c .lists) d .lists
+    ≡ reported head (reported head p d .lists) c .lists
 reports-in-either-order = reports-commute
 
 -- Learned distances ---------------------------------------------------------------------------------------------------------------------
@@ -103,7 +109,8 @@ pub never-exceeds : (k : Cart) → Fits k → (x n : ℕ) → Shortest (k .head)
 never-exceeds k e x n f = let a = accepts-held (k .head) (k .held) e in admissible (fit-consistent (a .fit)) (a .fit .zero-there) (f .walk)
 
 -- nor the true distance over any ground whose cells are blocked wherever they are known to be
-pub never-exceeds-true : (k : Cart) → Fits k → (truth : List ℕ) → ((c : ℕ) → c < cellsOf (k .head) → free truth c ≡ true → free (k .held .ground) c ≡ true)
+pub never-exceeds-true : (k : Cart) → Fits k → (truth : List ℕ)
+    → ((c : ℕ) → c < cellsOf (k .head) → free truth c ≡ true → free (k .held .ground) c ≡ true)
     → (x n : ℕ) → Walk (Adj (k .head .width) (k .head .height) truth) x (k .head .goal) n → learnt k x ≤ n
 never-exceeds-true k e truth known x n w =
     let a = accepts-held (k .head) (k .held) e in admissible (fit-consistent (a .fit)) (a .fit .zero-there) (go w)
@@ -123,7 +130,8 @@ never-exceeds-true k e truth known x n w =
           };
         }
 
-    go : {y z m : ℕ} → Walk (Adj (k .head .width) (k .head .height) truth) y z m → Walk (Adj (k .head .width) (k .head .height) (k .held .ground)) y z m
+    go : {y z m : ℕ} → Walk (Adj (k .head .width) (k .head .height) truth) y z m
+        → Walk (Adj (k .head .width) (k .head .height) (k .held .ground)) y z m
     go stay = stay
     go (step b w) = step (leg b) (go w)
 
@@ -132,8 +140,10 @@ module _ (w h start goal : ℕ) (p : Lent) (ok : laidOut w h start goal p .answe
   fresh-fits : Fits (laid w h start goal p)
   fresh-fits = fresh-is-accepted w h start goal p ok
 
-  pub from-fresh-never-falls : (more : List Call) (x : ℕ) → learnt (afterAll (laid w h start goal p) calls) x ≤ learnt (afterAll (afterAll (laid w h start goal p) calls) more) x
+  pub from-fresh-never-falls : (more : List Call) (x : ℕ) → learnt (afterAll (laid w h start goal p) calls) x
+      ≤ learnt (afterAll (afterAll (laid w h start goal p) calls) more) x
   from-fresh-never-falls more x = never-falls more (afterAll (laid w h start goal p) calls) x
 
   pub from-fresh-never-exceeds : (x n : ℕ) → let k = afterAll (laid w h start goal p) calls in Shortest (k .head) (k .held) x n → learnt k x ≤ n
-  from-fresh-never-exceeds x n f = never-exceeds (afterAll (laid w h start goal p) calls) (never-found-unfit (laid w h start goal p) calls fresh-fits) x n f
+  from-fresh-never-exceeds x n f =
+      never-exceeds (afterAll (laid w h start goal p) calls) (never-found-unfit (laid w h start goal p) calls fresh-fits) x n f

@@ -8,36 +8,39 @@ use Prim.Native.Nat.{ℕ, _<_}
 use native.Mathlib.Omega.{arith}
 use Rattle.walks.specs.Walk.{Walk, stay, step}
 use Rattle.walks.proofs.Pigeonhole.{fewest-below}
-use Rattle.plot.specs.Lent.{Lent}
-use Rattle.plot.specs.Numbers.{outcomeVerdict, stepVerdict, changedAnswer, planAnswer, moveAnswer}
-use Rattle.plot.specs.Route.{stands}
-use Rattle.plot.specs.Record.{recordOf, headOf}
-use Rattle.plot.specs.Store.{loadCheck}
-use Rattle.plot.specs.Report.{reported}
-use Rattle.plot.specs.Plan.{planned}
-use Rattle.plot.specs.Move.{moved}
-use Rattle.plot.specs.Controller.{ownRoom, ownScratch, AfterC, afterC, onRecord, stateIn, reportedC, plannedC, movedC}
-use Rattle.plot.specs.Ways.{Adj, HasWay, Shortest}
-use Rattle.plot.specs.declared.Head.{Head}
-use Rattle.plot.specs.declared.Verdict.{Verdict}
-use Rattle.plot.specs.declared.Verdict.the-variants.{Accepted}
-use Rattle.plot.specs.declared.Outcome.{Outcome}
-use Rattle.plot.specs.declared.Step.{Step}
-use Rattle.plot.proofs.Geometry.{adj-inside}
-use Rattle.plot.proofs.Accepting.{not-both, held-accepts}
-use Rattle.plot.proofs.Answering.{Says, plan-is-true, true-is-planned}
-use Rattle.plot.proofs.Moving.{Nearer, move-comes-nearer, standing-route-moves}
-use Rattle.plot.proofs.Recording.{load-held}
-use Rattle.plot.proofs.Controlling.{report-on-record, plan-on-record, move-on-record}
-use Rattle.promises.proofs.Ending.{plan-own}
+use Rattle.model.specs.Lent.{Lent}
+use Rattle.model.specs.Numbers.{outcomeVerdict, stepVerdict, changedAnswer, planAnswer, moveAnswer}
+use Rattle.model.specs.Route.{stands}
+use Rattle.model.specs.Record.{recordOf, headOf}
+use Rattle.model.specs.Store.{loadCheck}
+use Rattle.model.specs.Report.{reported}
+use Rattle.model.specs.Plan.{planned}
+use Rattle.model.specs.Move.{moved}
+use Rattle.model.specs.Controller.{ownRoom, ownScratch, AfterC, afterC, onRecord, stateIn, reportedC, plannedC, movedC}
+use Rattle.model.specs.Ways.{Adj, HasWay, Shortest}
+use Rattle.model.specs.declared.Head.{Head}
+use Rattle.model.specs.declared.Verdict.{Verdict}
+use Rattle.model.specs.declared.Verdict.the-variants.{Accepted}
+use Rattle.model.specs.declared.Outcome.{Outcome}
+use Rattle.model.specs.declared.Step.{Step}
+use Rattle.model.proofs.Grid.Geometry.{adj-inside}
+use Rattle.model.proofs.Calls.Acceptance.{not-both, held-accepts}
+use Rattle.model.proofs.Calls.PlanAnswers.{Says, plan-is-true, true-is-planned}
+use Rattle.model.proofs.Calls.MoveLaws.{Nearer, move-comes-nearer, standing-route-moves}
+use Rattle.model.proofs.Record.RecordLaws.{load-held}
+use Rattle.model.proofs.Record.ControllerLaws.{report-on-record, plan-on-record, move-on-record}
+use Rattle.promises.proofs.CallEndings.{plan-own}
 
 module _ (bytes : List ℕ) (ok : loadCheck bytes ownRoom ≡ Accepted) where
   -- what a call leaves is the record of its state
-  rewritten-as : (verdict : Verdict) (answer : ℕ) (head : Head) (p : Lent) → verdict ≡ Accepted → onRecord bytes verdict answer head p ≡ afterC answer (recordOf head p)
+  rewritten-as : (verdict : Verdict) (answer : ℕ) (head : Head) (p : Lent) → verdict ≡ Accepted
+      → onRecord bytes verdict answer head p ≡ afterC answer (recordOf head p)
   unfolding onRecord
   rewritten-as verdict answer head p e = rw (onRecord, ok, e)
 
-  pub report-rewrites : (c : ℕ) → let r = reported (headOf bytes) (stateIn bytes) c in r .answer .verdict ≡ Accepted → reportedC bytes c ≡ afterC 0 (recordOf (r .answer .head) (r .lists))
+  pub report-rewrites : (c : ℕ) → let r =
+      reported (headOf bytes) (stateIn bytes) c in r .answer .verdict ≡ Accepted
+      → reportedC bytes c ≡ afterC 0 (recordOf (r .answer .head) (r .lists))
   unfolding reportedC
   report-rewrites c e =
       let r = reported (headOf bytes) (stateIn bytes) c in
@@ -53,13 +56,18 @@ module _ (bytes : List ℕ) (ok : loadCheck bytes ownRoom ≡ Accepted) where
   taken Outcome.Arrived x = refl
   taken (Outcome.Refused why) x = absurd (not-both x (plan-own bytes ok))
 
-  pub plan-rewrites : let r = planned (headOf bytes) (stateIn bytes) ownScratch in plannedC bytes ≡ afterC (planAnswer (r .answer .outcome)) (recordOf (r .answer .head) (r .lists))
+  pub plan-rewrites : let r =
+      planned (headOf bytes) (stateIn bytes) ownScratch in
+      plannedC bytes ≡ afterC (planAnswer (r .answer .outcome)) (recordOf (r .answer .head) (r .lists))
   unfolding plannedC
   plan-rewrites =
       let r = planned (headOf bytes) (stateIn bytes) ownScratch in
-      rewritten-as (outcomeVerdict (r .answer .outcome)) (planAnswer (r .answer .outcome)) (r .answer .head) (r .lists) (taken (r .answer .outcome) plan-says)
+      rewritten-as (outcomeVerdict (r .answer .outcome)) (planAnswer (r .answer .outcome)) (r .answer .head) (r .lists)
+      (taken (r .answer .outcome) plan-says)
 
-  pub move-rewrites : let r = moved (headOf bytes) (stateIn bytes) in r .answer .step ≡ Step.Moved → movedC bytes ≡ afterC (r .answer .head .cell) (recordOf (r .answer .head) (r .lists))
+  pub move-rewrites : let r =
+      moved (headOf bytes) (stateIn bytes) in r .answer .step ≡ Step.Moved
+      → movedC bytes ≡ afterC (r .answer .head .cell) (recordOf (r .answer .head) (r .lists))
   unfolding movedC
   move-rewrites e =
       let r = moved (headOf bytes) (stateIn bytes) in
@@ -93,16 +101,19 @@ module _ (bytes : List ℕ) (ok : loadCheck bytes ownRoom ≡ Accepted) where
   pub plan-gives-no-way : (plannedC bytes .answer ≡ 65535) ↔ ((n : ℕ) → ¬ HasWay (headOf bytes) (stateIn bytes) (headOf bytes .cell) n)
   plan-gives-no-way = (λ e. go (said e), λ f. told Outcome.NoWay (plan-own bytes ok, f))
     where
-      go : (o : Outcome) × Says (headOf bytes) (stateIn bytes) ownScratch o × (planAnswer o ≡ 65535) → (n : ℕ) → ¬ HasWay (headOf bytes) (stateIn bytes) (headOf bytes .cell) n
+      go : (o : Outcome) × Says (headOf bytes) (stateIn bytes) ownScratch o × (planAnswer o ≡ 65535) → (n : ℕ)
+          → ¬ HasWay (headOf bytes) (stateIn bytes) (headOf bytes .cell) n
       go (Outcome.Route L, x, q) = absurd (omega (arith, short L (x .2)))
       go (Outcome.NoWay, x, q) = x .1
       go (Outcome.Arrived, x, q) = absurd (omega arith)
       go (Outcome.Refused why, x, q) = absurd (not-both x (plan-own bytes ok))
 
-  pub plan-gives-length : headOf bytes .cell ≢ headOf bytes .goal → (L : ℕ) → L ≢ 65535 → (plannedC bytes .answer ≡ L) ↔ Shortest (headOf bytes) (stateIn bytes) (headOf bytes .cell) L
+  pub plan-gives-length : headOf bytes .cell ≢ headOf bytes .goal → (L : ℕ) → L ≢ 65535 → (plannedC bytes .answer ≡ L)
+      ↔ Shortest (headOf bytes) (stateIn bytes) (headOf bytes .cell) L
   plan-gives-length d L other = (λ e. go (said e), λ f. told (Outcome.Route L) (plan-own bytes ok, d, f))
     where
-      go : (o : Outcome) × Says (headOf bytes) (stateIn bytes) ownScratch o × (planAnswer o ≡ L) → Shortest (headOf bytes) (stateIn bytes) (headOf bytes .cell) L
+      go : (o : Outcome) × Says (headOf bytes) (stateIn bytes) ownScratch o × (planAnswer o ≡ L)
+          → Shortest (headOf bytes) (stateIn bytes) (headOf bytes .cell) L
       go (Outcome.Route M, x, q) = rw (← q) (x .2)
       go (Outcome.NoWay, x, q) = absurd (other (sym q))
       go (Outcome.Arrived, x, q) = absurd (d (x .1))
@@ -141,7 +152,8 @@ afterAllC bytes [] = bytes
 afterAllC bytes (call ∷ calls) = afterAllC (nextC bytes call) calls
 
 -- "Data once accepted are never found unfit after any accepted reports, plans and moves, in any order": nor is a record
-pub record-never-unfit : (calls : List CallC) (bytes : List ℕ) → loadCheck bytes ownRoom ≡ Accepted → loadCheck (afterAllC bytes calls) ownRoom ≡ Accepted
+pub record-never-unfit : (calls : List CallC) (bytes : List ℕ) → loadCheck bytes ownRoom ≡ Accepted
+    → loadCheck (afterAllC bytes calls) ownRoom ≡ Accepted
 unfolding afterAllC
 record-never-unfit [] bytes ok = ok
 record-never-unfit (call ∷ calls) bytes ok = record-never-unfit calls (nextC bytes call) (stays call)

@@ -5,26 +5,26 @@ use mathlib.Core.List.{List, [], _∷_}
 use Prim.Native.Nat.{ℕ, zero, suc, _<_}
 use native.Mathlib.Omega.{arith}
 use lib.ListN.{length, getD, drop}
-use Rattle.plot.specs.Plot.{maxCells}
-use Rattle.plot.specs.Lent.{Lent, After}
-use Rattle.plot.specs.Head.{cellsOf}
-use Rattle.plot.specs.Record.{recordOf, headOf}
-use Rattle.plot.specs.Store.{loadCheck, loaded}
-use Rattle.plot.specs.Report.{reported}
-use Rattle.plot.specs.Controller.{ownRoom, AfterC, stateIn, reportedC}
-use Rattle.plot.specs.declared.Head.{Head}
-use Rattle.plot.specs.declared.Verdict.{Verdict}
-use Rattle.plot.specs.declared.Verdict.the-variants.{Accepted, Refused}
-use Rattle.plot.specs.declared.Changed.{Changed}
-use Rattle.plot.proofs.Fit.{Held}
-use Rattle.plot.proofs.Accepting.{not-both}
-use Rattle.plot.proofs.Written.{head-read}
-use Rattle.plot.proofs.Reporting.{Reporting, report-refused, report-taken, report-is}
-use Rattle.plot.proofs.Commuting.{report-keeps, reports-commute}
-use Rattle.plot.proofs.Recording.{room-for, load-held, saved-again, loaded-same}
-use Rattle.plot.proofs.Storing.{Loading, load-refused, load-read, load-is}
-use Rattle.plot.proofs.Beyond.{Beyond, LentBeyond, report-beyond, load-beyond}
-use Rattle.plot.proofs.Controlling.{report-on-record}
+use Rattle.model.specs.Plot.{maxCells}
+use Rattle.model.specs.Lent.{Lent, After}
+use Rattle.model.specs.Head.{cellsOf}
+use Rattle.model.specs.Record.{recordOf, headOf}
+use Rattle.model.specs.Store.{loadCheck, loaded}
+use Rattle.model.specs.Report.{reported}
+use Rattle.model.specs.Controller.{ownRoom, AfterC, stateIn, reportedC}
+use Rattle.model.specs.declared.Head.{Head}
+use Rattle.model.specs.declared.Verdict.{Verdict}
+use Rattle.model.specs.declared.Verdict.the-variants.{Accepted, Refused}
+use Rattle.model.specs.declared.Changed.{Changed}
+use Rattle.model.specs.Fit.{Held}
+use Rattle.model.proofs.Calls.Acceptance.{not-both}
+use Rattle.model.proofs.Record.RecordFields.{head-read}
+use Rattle.model.proofs.Calls.ReportLaws.{Reporting, report-refused, report-taken, report-is}
+use Rattle.model.proofs.Calls.ReportsCommute.{report-keeps, reports-commute}
+use Rattle.model.proofs.Record.RecordLaws.{room-for, load-held, saved-again, loaded-same}
+use Rattle.model.proofs.Record.SaveAndLoad.{Loading, load-refused, load-read, load-is}
+use Rattle.model.proofs.Calls.BeyondN.{Beyond, LentBeyond, report-beyond, load-beyond}
+use Rattle.model.proofs.Record.ControllerLaws.{report-on-record}
 use Rattle.promises.proofs.OverRecords.{report-rewrites}
 
 -- lists that agree below n and from n on are equal
@@ -53,18 +53,28 @@ module _ (head : Head) (p q : Lent) (a : Held head q) (beyond : LentBeyond (cell
       let n = cellsOf head in
       let room = room-for n maxCells (a .placed .few) in
       let s = loaded-same head q a ownRoom room in
-      let one : (l m k o : List ℕ) → Beyond n o m → Beyond n l k → Beyond n o l → ((i : ℕ) → i < n → getD k i 0 ≡ getD m i 0) → m ≡ k = λ l m k o x y z f. joined n m k (x .long ∙ sym (z .long) ∙ sym (y .long)) (x .stays ∙ sym (z .stays) ∙ sym (y .stays)) (λ i j. sym (f i j)) in
+      let one : (l m k o : List ℕ) → Beyond n o m → Beyond n l k → Beyond n o l → ((i : ℕ) → i < n → getD k i 0 ≡ getD m i 0) → m ≡ k =
+      λ l m k o x y z f. joined n m k (x .long ∙ sym (z .long) ∙ sym (y .long)) (x .stays ∙ sym (z .stays) ∙ sym (y .stays))
+      (λ i j. sym (f i j)) in
       λ i. record {
-        ground = one (p .ground) (loaded (recordOf head q) ownRoom .lists .ground) (q .ground) (ownRoom .ground) (again .ground) (beyond .ground) (fresh .ground) (s .ground) i;
-        learned = one (p .learned) (loaded (recordOf head q) ownRoom .lists .learned) (q .learned) (ownRoom .learned) (again .learned) (beyond .learned) (fresh .learned) (s .learned) i;
-        link = one (p .link) (loaded (recordOf head q) ownRoom .lists .link) (q .link) (ownRoom .link) (again .link) (beyond .link) (fresh .link) (s .link) i;
+        ground =
+            one (p .ground) (loaded (recordOf head q) ownRoom .lists .ground) (q .ground) (ownRoom .ground) (again .ground) (beyond .ground)
+            (fresh .ground) (s .ground) i;
+        learned =
+            one (p .learned) (loaded (recordOf head q) ownRoom .lists .learned) (q .learned) (ownRoom .learned) (again .learned) (beyond .learned)
+            (fresh .learned) (s .learned) i;
+        link =
+            one (p .link) (loaded (recordOf head q) ownRoom .lists .link) (q .link) (ownRoom .link) (again .link) (beyond .link) (fresh .link)
+            (s .link) i;
       }
 
 -- a report over a record leaves the record of what the report leaves, also where it is refused
-report-leaves : (bytes : List ℕ) → loadCheck bytes ownRoom ≡ Accepted → (c : ℕ) → reportedC bytes c .bytes ≡ recordOf (headOf bytes) (reported (headOf bytes) (stateIn bytes) c .lists)
+report-leaves : (bytes : List ℕ) → loadCheck bytes ownRoom ≡ Accepted → (c : ℕ)
+    → reportedC bytes c .bytes ≡ recordOf (headOf bytes) (reported (headOf bytes) (stateIn bytes) c .lists)
 report-leaves bytes ok c = go (report-is (headOf bytes) (stateIn bytes) c) refl
   where
-    go : {r : After Changed} → Reporting (headOf bytes) (stateIn bytes) c r → reported (headOf bytes) (stateIn bytes) c ≡ r → reportedC bytes c .bytes ≡ recordOf (headOf bytes) (r .lists)
+    go : {r : After Changed} → Reporting (headOf bytes) (stateIn bytes) c r → reported (headOf bytes) (stateIn bytes) c ≡ r
+        → reportedC bytes c .bytes ≡ recordOf (headOf bytes) (r .lists)
     go (report-refused {why = why} e) q =
         report-on-record bytes c .undone why ok (ap (λ (r : After Changed). r .answer .verdict) q) .1 ∙ sym (saved-again bytes ownRoom ok)
     go (report-taken a i n) q =
@@ -73,7 +83,8 @@ report-leaves bytes ok c = go (report-is (headOf bytes) (stateIn bytes) c) refl
 
 -- and a second report goes on from there
 module _ (bytes : List ℕ) (ok : loadCheck bytes ownRoom ≡ Accepted) where
-  then-report : (c d : ℕ) → reportedC (reportedC bytes c .bytes) d .bytes ≡ recordOf (headOf bytes) (reported (headOf bytes) (reported (headOf bytes) (stateIn bytes) c .lists) d .lists)
+  then-report : (c d : ℕ) → reportedC (reportedC bytes c .bytes) d .bytes
+      ≡ recordOf (headOf bytes) (reported (headOf bytes) (reported (headOf bytes) (stateIn bytes) c .lists) d .lists)
   then-report c d =
       let head = headOf bytes in
       let q = reported head (stateIn bytes) c .lists in
@@ -87,11 +98,13 @@ module _ (bytes : List ℕ) (ok : loadCheck bytes ownRoom ≡ Accepted) where
       ∙ ap₂ (λ (h : Head) (t : Lent). recordOf h (reported h t d .lists)) (head-read head q) state
 
 -- REPORTS OVER A RECORD leave the same bytes in either order, accepted or refused.
-pub record-reports-in-either-order : (bytes : List ℕ) (c d : ℕ) → reportedC (reportedC bytes c .bytes) d .bytes ≡ reportedC (reportedC bytes d .bytes) c .bytes
+pub record-reports-in-either-order : (bytes : List ℕ) (c d : ℕ) → reportedC (reportedC bytes c .bytes) d .bytes
+    ≡ reportedC (reportedC bytes d .bytes) c .bytes
 record-reports-in-either-order bytes c d = go _ refl
   where
     go : (v : Verdict) → loadCheck bytes ownRoom ≡ v → reportedC (reportedC bytes c .bytes) d .bytes ≡ reportedC (reportedC bytes d .bytes) c .bytes
-    go Accepted ok = then-report bytes ok c d ∙ ap (recordOf (headOf bytes)) (reports-commute (headOf bytes) (stateIn bytes) c d) ∙ sym (then-report bytes ok d c)
+    go Accepted ok =
+        then-report bytes ok c d ∙ ap (recordOf (headOf bytes)) (reports-commute (headOf bytes) (stateIn bytes) c d) ∙ sym (then-report bytes ok d c)
     go (Refused why) f =
         let same : (e : ℕ) → reportedC bytes e .bytes ≡ bytes = λ e. report-on-record bytes e .unread why f .1 in
         ap (λ (b : List ℕ). reportedC b d .bytes) (same c) ∙ same d ∙ sym (ap (λ (b : List ℕ). reportedC b c .bytes) (same d) ∙ same c)

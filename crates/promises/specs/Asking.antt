@@ -3,19 +3,19 @@ use mathlib.Core.Bool.{cond}
 use mathlib.Core.List.{List, [], _∷_, _++_}
 use Prim.Native.Nat.{ℕ, _-_}
 use lib.Dec.{ltb}
-use Rattle.plot.specs.Lent.{Lent, Scratch, After, buffersOf, scratchBuffers}
-use Rattle.plot.specs.Head.{noHead}
-use Rattle.plot.specs.Numbers.{verdictNumber, outcomeVerdict, stepVerdict, lengthVerdict}
-use Rattle.plot.specs.Layout.{laidOut}
-use Rattle.plot.specs.Report.{reported}
-use Rattle.plot.specs.Plan.{AfterPlan, planned}
-use Rattle.plot.specs.Move.{moved}
-use Rattle.plot.specs.Listing.{AfterList, listed, listNumber}
-use Rattle.plot.specs.Store.{AfterSave, saved, loaded}
-use Rattle.plot.specs.Controller.{AfterC, reportedC, plannedC, movedC}
-use Rattle.plot.specs.declared.Head.{Head}
-use Rattle.plot.specs.declared.Changed.{Changed}
-use Rattle.plot.specs.declared.Moved.{Moved}
+use Rattle.model.specs.Lent.{Lent, Scratch, After, buffersOf, scratchBuffers}
+use Rattle.model.specs.Head.{noHead}
+use Rattle.model.specs.Numbers.{verdictNumber, outcomeVerdict, stepVerdict, lengthVerdict}
+use Rattle.model.specs.Layout.{laidOut}
+use Rattle.model.specs.Report.{reported}
+use Rattle.model.specs.Plan.{AfterPlan, planned}
+use Rattle.model.specs.Move.{moved}
+use Rattle.model.specs.Listing.{AfterList, listed, listNumber}
+use Rattle.model.specs.Store.{AfterSave, saved, loaded}
+use Rattle.model.specs.Controller.{AfterC, reportedC, plannedC, movedC}
+use Rattle.model.specs.declared.Head.{Head}
+use Rattle.model.specs.declared.Changed.{Changed}
+use Rattle.model.specs.declared.Moved.{Moved}
 
 pub data Ask : Type 0 where
   layout : (w h start goal : ℕ) → Lent → Ask

@@ -6,16 +6,16 @@ use mathlib.Core.Bool.{false}
 use mathlib.Core.List.{List, [], _∷_, _++_}
 use Prim.Native.Nat.{ℕ, suc, _≤_, _<_}
 use lib.ListN.{length, getD}
-use Rattle.plot.specs.Plot.{cells}
-use Rattle.plot.specs.Lent.{Lent, buffersOf, scratchBuffers}
-use Rattle.plot.specs.Head.{cellsOf, cellsNamed}
-use Rattle.plot.specs.Route.{next, route}
-use Rattle.plot.specs.Record.{recordLength, headOf, readInto, sidesFormed, formed}
-use Rattle.plot.specs.Controller.{ownRoom, stateIn}
-use Rattle.plot.specs.declared.Head.{Head}
-use Rattle.plot.specs.declared.Reason.{Reason}
-use Rattle.plot.specs.declared.Reason.the-variants.{Sides, Short, Outside, Unsound, OwnCell, NoRoute, Form}
-use Rattle.plot.proofs.Fit.{Fit}
+use Rattle.model.specs.Plot.{cells}
+use Rattle.model.specs.Lent.{Lent, buffersOf, scratchBuffers}
+use Rattle.model.specs.Head.{cellsOf, cellsNamed}
+use Rattle.model.specs.Route.{next, route}
+use Rattle.model.specs.Record.{recordLength, headOf, readInto, sidesFormed, formed}
+use Rattle.model.specs.Controller.{ownRoom, stateIn}
+use Rattle.model.specs.declared.Head.{Head}
+use Rattle.model.specs.declared.Reason.{Reason}
+use Rattle.model.specs.declared.Reason.the-variants.{Sides, Short, Outside, Unsound, OwnCell, NoRoute, Form}
+use Rattle.model.specs.Fit.{Fit}
 use Rattle.promises.specs.Asking.{Ask, layout, report, plan, move, list, question, save, load, reportC, planC, moveC}
 
 -- Rows ------------------------------------------------------------------------------------------------------------------------------

@@ -3,14 +3,14 @@ use mathlib.Core.List.{List, [], _∷_}
 use mathlib.Core.Path.{_≡_}
 use Prim.Native.Nat.{ℕ, _<_}
 use lib.ListN.{getD}
-use Rattle.plot.specs.Lent.{Lent, Scratch}
-use Rattle.plot.specs.Head.{cellsOf}
-use Rattle.plot.specs.Layout.{laidOut}
-use Rattle.plot.specs.Report.{reported}
-use Rattle.plot.specs.Plan.{planned}
-use Rattle.plot.specs.Move.{moved}
-use Rattle.plot.specs.Ways.{Accepts}
-use Rattle.plot.specs.declared.Head.{Head}
+use Rattle.model.specs.Lent.{Lent, Scratch}
+use Rattle.model.specs.Head.{cellsOf}
+use Rattle.model.specs.Layout.{laidOut}
+use Rattle.model.specs.Report.{reported}
+use Rattle.model.specs.Plan.{planned}
+use Rattle.model.specs.Move.{moved}
+use Rattle.model.specs.Ways.{Accepts}
+use Rattle.model.specs.declared.Head.{Head}
 
 pub record Cart : Type 0 where
   pub head : Head

@@ -5,10 +5,17 @@ use mathlib.Core.Path.{_≡_, sym, ap, _∙_}
 use mathlib.Core.Logic.{_⊎_, ⊎-elim}
 use mathlib.Core.List.{List}
 use native.Mathlib.Omega.{arith}
-use lib.ListN.{getD, set}
+use lib.ListN.{getD, set, length-set}
 use lib.Seq.{getD-set-same, getD-set-other}
-use Rattle.queue.specs.Queue.{none, cell, Entry, Back, Gap, GapKeys}
-use Rattle.queue.proofs.Choices.{same-or}
+use Rattle.queue.specs.Queue.{none, cell, QueueRoom, Entry, Back, Gap, GapKeys}
+use Rattle.model.proofs.Lists.Choices.{same-or}
+
+-- a store in either list leaves the room
+pub room-kept : {n : ℕ} {h q : List ℕ} (i v x j : ℕ) → QueueRoom n h q → QueueRoom n (set h i v) (set q x j)
+room-kept i v x j r = record { heaps = rw length-set (r .heaps); places = rw length-set (r .places) }
+
+pub room-heap : {n : ℕ} {h q : List ℕ} (i v : ℕ) → QueueRoom n h q → QueueRoom n (set h i v) q
+room-heap i v r = record { heaps = rw length-set (r .heaps); places = r .places }
 
 -- ---- entries
 pub mk : {n : ℕ} {h : List ℕ} {q : List ℕ} {j : ℕ} (k : ℕ) → getD h j 0 ≡ k → k % 65536 < n → getD q (k % 65536) 0 ≡ j → k < none → Entry n h q j
@@ -26,13 +33,13 @@ module _ {n len : ℕ} {h : List ℕ} {q : List ℕ} {i v : ℕ} (g : Gap n len 
   m-em = g .entry m m1 m2 z
 
   pub m-hi : getD (set h i (getD h m 0)) i 0 ≡ getD h m 0
-  m-hi = getD-set-same h i (getD h m 0) 0 (omega (arith, g .room, g .high, g .fits))
+  m-hi = getD-set-same h i (getD h m 0) 0 (omega (arith, g .room .heaps, g .high, g .fits))
 
   pub m-ho : (j : ℕ) → (j ≡ i → ⊥) → getD (set h i (getD h m 0)) j 0 ≡ getD h j 0
   m-ho j w = getD-set-other h i j (getD h m 0) 0 w
 
   pub m-qi : getD (set q (cell h m) i) (cell h m) 0 ≡ i
-  m-qi = getD-set-same q (cell h m) i 0 (omega (arith, g .spots, m-em .inside))
+  m-qi = getD-set-same q (cell h m) i 0 (omega (arith, g .room .places, m-em .inside))
 
   pub m-qo : (x : ℕ) → (x ≡ cell h m → ⊥) → getD (set q (cell h m) i) x 0 ≡ getD q x 0
   m-qo x w = getD-set-other q (cell h m) x i 0 w
@@ -45,7 +52,9 @@ module _ {n len : ℕ} {h : List ℕ} {q : List ℕ} {i v : ℕ} (g : Gap n len 
 
   pub m-away : (j : ℕ) → 1 ≤ j → j ≤ len → (j ≡ m → ⊥) → cell (set h i (getD h m 0)) j ≡ v % 65536 → ⊥
   m-away j a b w e =
-      ⊎-elim (λ (s : j ≡ i). g .away m m1 m2 z (sym (same-cell h (set h i (getD h m 0)) j m (ap (λ (x : ℕ). getD (set h i (getD h m 0)) x 0) s ∙ m-hi)) ∙ e))
+      ⊎-elim
+      (λ (s : j ≡ i). g .away m m1 m2 z (sym (same-cell h (set h i (getD h m 0)) j m (ap (λ (x : ℕ). getD (set h i (getD h m 0)) x 0) s ∙ m-hi))
+      ∙ e))
       (λ (s : j ≡ i → ⊥). g .away j a b s (sym (same-cell h (set h i (getD h m 0)) j j (m-ho j s)) ∙ e))
       (same-or j i)
 

@@ -1,7 +1,7 @@
-pub mod Choices
+-- A gap in the heap, how it rises and sinks, what a change leaves, the least key, and the order of keys.
 pub mod Gaps
-pub mod Climbing
-pub mod Falling
-pub mod Changing
-pub mod First
-pub mod Keys
+pub mod GapRises
+pub mod GapSinks
+pub mod QueueChanges
+pub mod LeastKey
+pub mod KeyOrder

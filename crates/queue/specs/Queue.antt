@@ -6,6 +6,10 @@ use mathlib.Core.Logic.{_⊎_}
 use mathlib.Core.List.{List}
 use lib.ListN.{getD, length}
 
+-- the length of a heap for n cells: an entry before the keys, and room for two behind them
+abbrev pub heapRoom : ℕ → ℕ
+heapRoom n = n + 3
+
 abbrev pub none : ℕ
 none = 0xffff_ffff_ffff_ffff
 
@@ -26,9 +30,13 @@ pub record Entry (n : ℕ) (h q : List ℕ) (j : ℕ) : Type 0 where
   pub spot : getD q (cell h j) 0 ≡ j
   pub under : getD h j 0 < none
 
+-- room for n cells: an entry before the keys and two behind them, and a place for each cell
+pub record QueueRoom (n : ℕ) (h q : List ℕ) : Type 0 where
+  pub heaps : heapRoom n ≤ length h
+  pub places : n ≤ length q
+
 pub record Queue (n len : ℕ) (h q : List ℕ) : Type 0 where
-  pub room : n + 3 ≤ length h
-  pub spots : n ≤ length q
+  pub room : QueueRoom n h q
   pub small : n ≤ 65534
   pub base : getD h 0 0 ≡ 0
   pub entry : (j : ℕ) → 1 ≤ j → j ≤ len → Entry n h q j
@@ -48,8 +56,7 @@ pub record Keys (f : ℕ → ℕ) (n len : ℕ) (h q : List ℕ) : Type 0 where
 
 -- the same where entry i is free and the key v is in hand
 pub record Gap (n len : ℕ) (h q : List ℕ) (i v : ℕ) : Type 0 where
-  pub room : n + 3 ≤ length h
-  pub spots : n ≤ length q
+  pub room : QueueRoom n h q
   pub small : n ≤ 65534
   pub base : getD h 0 0 ≡ 0
   pub fits : len ≤ n + 1

@@ -1,16 +1,19 @@
 // The queue of waiting cells: an indexed binary heap of packed keys. heap holds keys in entries 1 .. len, with 0 in entry 0;
-// place holds where each waiting cell's key stands. One gap moves, and the key in hand is stored once.
-
+// place holds where each waiting cell's key stands. Sifting moves a hole, and stores the key in hand once, at the end.
+use model::Head;
 ghost use mathlib.Core.Path.{_≡_};
 ghost use Prim.Native.Nat.{_+_, _*_, _%_, _<_, _≤_};
 ghost use lib.ListN.{getD};
 ghost use Rattle.queue.specs.Queue.{none, keyOf, Lesser, Queue, Rising, Risen, Gap, Sunk, Lowered, Absent, Waits, Popped};
 
+// The length of a heap for the largest plot: an entry before the keys, and room for two behind them.
+pub const ROOM: usize = Head::MAX_CELLS + 3;
+
 // No cell: greater than every key.
 pub const NONE: u64 = 0xffff_ffff_ffff_ffff;
 
 // The lesser key is the cell to take first: smaller cost + learned, then larger cost, then lower cell number.
-pub fn key(cost: u16, learned: u16, cell: u16) -> u64
+pub fn key_of(cost: u16, learned: u16, cell: u16) -> u64
     ensures { λ r. ⌜ r ≡ keyOf cost learned cell ⌝ }
 {
     let c = cost as u64;

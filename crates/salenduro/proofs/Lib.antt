@@ -1,10 +1,3 @@
-pub mod Reading
-pub mod Rewriting
-pub mod Reporting
-pub mod Planning
-pub mod Moving
-pub mod Fitting
-pub mod Hosting
-pub mod Coinciding
-pub mod Leaving
-pub mod Answering
+-- Every number that a host is given fits 32 bits; two results of a contract are one.
+pub mod AnswersFit
+pub mod OneResult

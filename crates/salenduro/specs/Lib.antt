@@ -1,1 +1,3 @@
-pub mod Hosting
+-- The head array, and each call over a host's buffers.
+pub mod Heads
+pub mod Buffers

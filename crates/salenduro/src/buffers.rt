@@ -1,31 +1,30 @@
-// The calls over buffers that a host keeps itself, with the head in an array of five entries (specs/Hosting). Each is the call
+// The calls over buffers that a host keeps itself, with the head in an array of five entries (specs/Buffers). Each is the call
 // of its name, with the head read before and written after; a refusal writes nothing, not there either.
-use calls::advance;
-use calls::layout;
-use calls::plan;
-use calls::report;
-use listing::list_question;
-use load::load;
-use numbers::REFUSED;
-use numbers::changed_answer;
-use numbers::heads::CELL_AT;
-use numbers::heads::COUNT_AT;
-use numbers::heads::HEAD_SIZE;
-use numbers::heads::head_of;
-use numbers::heads::set_entry;
-use numbers::heads::set_head;
-use numbers::move_answer;
-use numbers::outcome_verdict;
-use numbers::plan_answer;
-use numbers::refused;
-use numbers::save_answer;
-use numbers::step_verdict;
-use plot::Reason;
-use route::fill_route;
-use save::save;
+use crate::heads::CELL_AT;
+use crate::heads::COUNT_AT;
+use crate::heads::HEAD_SIZE;
+use crate::heads::head_in;
+use crate::heads::set_entry;
+use crate::heads::set_head;
+use crate::numbers::REFUSED;
+use crate::numbers::changed_answer;
+use crate::numbers::move_answer;
+use crate::numbers::plan_answer;
+use crate::numbers::refusal;
+use crate::numbers::save_answer;
+use calls::advance::advance;
+use calls::layout::layout;
+use calls::list::fill_route;
+use calls::list::list_question;
+use calls::plan::plan;
+use calls::report::report;
+use model::Reason;
+use record::load::load;
+use record::save::save;
 ghost use mathlib.Core.Path.{_≡_};
-ghost use Rattle.plot.specs.Lent.{lentWith, scratchWith};
-ghost use Rattle.salenduro.specs.Hosting.{afterHost, afterHostPlan, afterHostFill, laidOutHost, reportedHost, plannedHost, movedHost, listedHost, questionHost, savedHost, loadedHost};
+ghost use Rattle.model.specs.Lent.{lentBefore, lentAfter, scratchBefore, scratchAfter};
+ghost use Rattle.salenduro.specs.Buffers.{afterHost, afterHostPlan, afterHostFill, laidOutHost, reportedHost, plannedHost, movedHost};
+ghost use Rattle.salenduro.specs.Buffers.{listedHost, questionHost, savedHost, loadedHost};
 
 #[no_mangle]
 pub extern "C" fn salenduro_buffers_layout(
@@ -38,11 +37,11 @@ pub extern "C" fn salenduro_buffers_layout(
     learned: &mut [u16],
     link: &mut [u8],
 ) -> u32
-    ensures { λ r. ⌜ afterHost r (now (head .exit)) (lentWith (now (ground .exit)) (now (learned .exit)) (now (link .exit)))
-        ≡ laidOutHost width height start goal (now (head .entry)) (lentWith (now (ground .entry)) (now (learned .entry)) (now (link .entry))) ⌝ }
+    ensures { λ r. ⌜ afterHost r (now (head .exit)) (lentAfter ground learned link)
+        ≡ laidOutHost width height start goal (now (head .entry)) (lentBefore ground learned link) ⌝ }
 {
     if head.len() < HEAD_SIZE {
-        return refused(Reason::Short);
+        return refusal(Reason::Short);
     }
     let changed = layout(width, height, start, goal, ground, learned, link);
     set_head(head, changed);
@@ -58,13 +57,13 @@ pub extern "C" fn salenduro_buffers_report(
     link: &mut [u8],
     cell: usize,
 ) -> u32
-    ensures { λ r. ⌜ afterHost r (now (head .entry)) (lentWith (now (ground .exit)) (now (learned .entry)) (now (link .exit)))
-        ≡ reportedHost (now (head .entry)) (lentWith (now (ground .entry)) (now (learned .entry)) (now (link .entry))) cell ⌝ }
+    ensures { λ r. ⌜ afterHost r (now (head .entry)) (lentAfter ground learned link)
+        ≡ reportedHost (now (head .entry)) (lentBefore ground learned link) cell ⌝ }
 {
     if head.len() < HEAD_SIZE {
-        return refused(Reason::Short);
+        return refusal(Reason::Short);
     }
-    let changed = report(head_of(head), ground, learned, link, cell);
+    let changed = report(head_in(head), ground, learned, link, cell);
     let verdict = changed.verdict;
     changed_answer(verdict)
 }
@@ -79,17 +78,17 @@ pub extern "C" fn salenduro_buffers_plan(
     cost: &mut [u16],
     trail: &mut [u8],
 ) -> u32
-    ensures { λ r. ⌜ afterHostPlan r (now (head .exit)) (lentWith (now (ground .entry)) (now (learned .exit)) (now (link .exit)))
-        (scratchWith (now (mark .exit)) (now (cost .exit)) (now (trail .exit)))
-        ≡ plannedHost (now (head .entry)) (lentWith (now (ground .entry)) (now (learned .entry)) (now (link .entry)))
-        (scratchWith (now (mark .entry)) (now (cost .entry)) (now (trail .entry))) ⌝ }
+    ensures { λ r. ⌜ afterHostPlan r (now (head .exit)) (lentAfter ground learned link)
+        (scratchAfter mark cost trail)
+        ≡ plannedHost (now (head .entry)) (lentBefore ground learned link)
+        (scratchBefore mark cost trail) ⌝ }
 {
     if head.len() < HEAD_SIZE {
-        return refused(Reason::Short);
+        return refusal(Reason::Short);
     }
-    let planned = plan(head_of(&head[..]), ground, learned, link, mark, cost, trail);
+    let planned = plan(head_in(&head[..]), ground, learned, link, mark, cost, trail);
     let outcome = planned.outcome;
-    set_entry(head, COUNT_AT, outcome_verdict(outcome), planned.expanded);
+    set_entry(head, COUNT_AT, outcome.verdict(), planned.expanded);
     plan_answer(outcome)
 }
 
@@ -100,16 +99,16 @@ pub extern "C" fn salenduro_buffers_move(
     learned: &[u16],
     link: &mut [u8],
 ) -> u32
-    ensures { λ r. ⌜ afterHost r (now (head .exit)) (lentWith (now (ground .entry)) (now (learned .entry)) (now (link .exit)))
-        ≡ movedHost (now (head .entry)) (lentWith (now (ground .entry)) (now (learned .entry)) (now (link .entry))) ⌝ }
+    ensures { λ r. ⌜ afterHost r (now (head .exit)) (lentAfter ground learned link)
+        ≡ movedHost (now (head .entry)) (lentBefore ground learned link) ⌝ }
 {
     if head.len() < HEAD_SIZE {
-        return refused(Reason::Short);
+        return refusal(Reason::Short);
     }
-    let moved = advance(head_of(&head[..]), ground, learned, link);
+    let moved = advance(head_in(&head[..]), ground, learned, link);
     let next = moved.head;
     let step = moved.step;
-    set_entry(head, CELL_AT, step_verdict(step), next.cell);
+    set_entry(head, CELL_AT, step.verdict(), next.cell);
     move_answer(next.cell, step)
 }
 
@@ -121,12 +120,12 @@ pub extern "C" fn salenduro_buffers_question(
     link: &[u8],
     list: &[u16],
 ) -> u32
-    ensures { λ r. ⌜ r ≡ questionHost (now (head .entry)) (lentWith (now (ground .entry)) (now (learned .entry)) (now (link .entry))) (now (list .entry)) ⌝ }
+    ensures { λ r. ⌜ r ≡ questionHost (now (head .entry)) (lentBefore ground learned link) (now (list .entry)) ⌝ }
 {
     if head.len() < HEAD_SIZE {
         return 2;
     }
-    list_question(head_of(head), ground, learned, link, list) as u32
+    list_question(head_in(head), ground, learned, link, list) as u32
 }
 
 // The question decides: list would test the data again.
@@ -139,13 +138,13 @@ pub extern "C" fn salenduro_buffers_list(
     list: &mut [u16],
 ) -> u32
     ensures { λ r. ⌜ afterHostFill r (now (list .exit))
-        ≡ listedHost (now (head .entry)) (lentWith (now (ground .entry)) (now (learned .entry)) (now (link .entry))) (now (list .entry)) ⌝ }
+        ≡ listedHost (now (head .entry)) (lentBefore ground learned link) (now (list .entry)) ⌝ }
 {
     let number = salenduro_buffers_question(head, ground, learned, link, &list[..]);
     if number != 0 {
         return REFUSED + number;
     }
-    fill_route(head_of(head), ground, learned, link, list) as u32
+    fill_route(head_in(head), ground, learned, link, list) as u32
 }
 
 #[no_mangle]
@@ -157,12 +156,12 @@ pub extern "C" fn salenduro_buffers_save(
     bytes: &mut [u8],
 ) -> u32
     ensures { λ r. ⌜ afterHostFill r (now (bytes .exit))
-        ≡ savedHost (now (head .entry)) (lentWith (now (ground .entry)) (now (learned .entry)) (now (link .entry))) (now (bytes .entry)) ⌝ }
+        ≡ savedHost (now (head .entry)) (lentBefore ground learned link) (now (bytes .entry)) ⌝ }
 {
     if head.len() < HEAD_SIZE {
-        return refused(Reason::Short);
+        return refusal(Reason::Short);
     }
-    let saved = save(head_of(head), ground, learned, link, bytes);
+    let saved = save(head_in(head), ground, learned, link, bytes);
     let length = saved.length;
     save_answer(length)
 }
@@ -175,11 +174,11 @@ pub extern "C" fn salenduro_buffers_load(
     learned: &mut [u16],
     link: &mut [u8],
 ) -> u32
-    ensures { λ r. ⌜ afterHost r (now (head .exit)) (lentWith (now (ground .exit)) (now (learned .exit)) (now (link .exit)))
-        ≡ loadedHost (now (bytes .entry)) (now (head .entry)) (lentWith (now (ground .entry)) (now (learned .entry)) (now (link .entry))) ⌝ }
+    ensures { λ r. ⌜ afterHost r (now (head .exit)) (lentAfter ground learned link)
+        ≡ loadedHost (now (bytes .entry)) (now (head .entry)) (lentBefore ground learned link) ⌝ }
 {
     if head.len() < HEAD_SIZE {
-        return refused(Reason::Short);
+        return refusal(Reason::Short);
     }
     let read = load(bytes, ground, learned, link);
     set_head(head, read);

@@ -4,35 +4,34 @@ use mathlib.Core.Bool.{true, false}
 use mathlib.Core.List.{List}
 use Prim.Native.Nat.{ℕ, _≤_}
 use lib.Dec.{eqb}
-use lib.ListN.{length, getD}
-use Rattle.plot.specs.Head.{cellsOf}
-use Rattle.plot.specs.Lent.{Lent, Scratch}
-use Rattle.plot.specs.Search.{begun, Ended, stoppedAt, nothingWaits}
-use Rattle.plot.specs.Plan.{searched, expandedCount}
-use Rattle.plot.specs.Ways.{Accepts}
-use Rattle.plot.specs.declared.Head.{Head}
-use Rattle.search.specs.Gone.{Gone}
-use Rattle.search.specs.Start.{Startable}
-use Rattle.learn.specs.Listed.{Listed}
-use Rattle.expand.specs.Waiting.{Held}
+use lib.ListN.{getD}
+use Rattle.model.specs.Head.{cellsOf}
+use Rattle.model.specs.Lent.{Lent, Scratch}
+use Rattle.model.specs.Search.{begun, Ended, stoppedAt, nothingWaits}
+use Rattle.model.specs.Plan.{searched, expandedCount}
+use Rattle.model.specs.Fit.{Sized}
+use Rattle.model.specs.Ways.{Accepts}
+use Rattle.model.specs.declared.Head.{Head}
+use Rattle.search.specs.Memory.{Gone}
+use Rattle.search.specs.Workspace.{Workspace}
+use Rattle.search.specs.Listed.{Listed}
+use Rattle.search.specs.Waiting.{Queued}
 
 -- scratch is as a search begins, and the cart's cell alone waits; no cell is gone
 pub record Huntable (head : Head) (p : Lent) (n : ℕ) (s : Scratch) (heap place gone list : List ℕ) : Type 0 where
   pub count : n ≡ cellsOf head
   pub accepted : Accepts head p
   pub begins : begun n (head .cell) s ≡ s
-  pub held : Held n (p .learned) s 1 heap place
+  pub queued : Queued n (p .learned) s 1 heap place
   pub memory : Gone (head .width) (head .height) (head .goal) (p .learned) (p .link) gone
-  pub gones : n ≤ length gone
-  pub lists : n ≤ length list
+  pub space : Workspace n heap place gone list
 
 -- the data are accepted, and each list has room; what scratch and the lists hold does not matter
 pub record Searchable (head : Head) (p : Lent) (n : ℕ) (s : Scratch) (heap place gone list : List ℕ) : Type 0 where
   pub count : n ≡ cellsOf head
   pub accepted : Accepts head p
-  pub start : Startable n (head .cell) (p .learned) s heap place
-  pub gones : n ≤ length gone
-  pub lists : n ≤ length list
+  pub sized : Sized n s
+  pub space : Workspace n heap place gone list
 
 -- a search that ended at cell c with this scratch, or where c is n, with nothing waiting
 abbrev pub endAt : (n c : ℕ) → Scratch → Ended

@@ -1,12 +1,11 @@
-// The search, and its loop: take the first of the queue, stop there or expand it, until nothing waits.
-use crate::start::start;
-use crate::stop::leads;
-use expand::expand;
-use fills::clear;
-use plot::Head;
+// The search's loop: take the first of the queue, stop there or expand it, until nothing waits.
+use crate::expand::expand;
+use crate::search;
+use crate::stop::stops;
+use model::Head;
 use queue::cell_of;
-ghost use Rattle.plot.specs.Lent.{lentWith, scratchWith};
-ghost use Rattle.search.specs.Hunt.{Huntable, Searchable, Hunted};
+ghost use Rattle.model.specs.Lent.{lentNow, lentBefore, scratchNow, scratchBefore, scratchAfter};
+ghost use Rattle.search.specs.Hunt.{Huntable, Hunted};
 
 // Where a search ended, n where nothing waits, and how many cells it expanded.
 pub struct End {
@@ -15,7 +14,7 @@ pub struct End {
 }
 
 // The search of a plan, from a scratch that is begun. The cells that it expands are listed.
-fn hunt(
+pub fn hunt(
     head: Head,
     n: usize,
     ground: &[u8],
@@ -29,16 +28,16 @@ fn hunt(
     gone: &mut [u8],
     list: &mut [u16],
 ) -> End
-    requires { ⌜ Huntable head (lentWith (now ground) (now learned) (now link)) n (scratchWith (now mark) (now cost) (now trail)) (now heap) (now place) (now gone) (now list) ⌝ }
-    ensures { λ r. ⌜ Hunted head (lentWith (now (ground .entry)) (now (learned .entry)) (now (link .entry))) n
-        (scratchWith (now (mark .entry)) (now (cost .entry)) (now (trail .entry))) (r .at) (r .count)
-        (scratchWith (now (mark .exit)) (now (cost .exit)) (now (trail .exit))) (now (list .exit)) ⌝ }
+    requires { ⌜ Huntable head (lentNow ground learned link) n (scratchNow mark cost trail) (now heap) (now place) (now gone) (now list) ⌝ }
+    ensures { λ r. ⌜ Hunted head (lentBefore ground learned link) n
+        (scratchBefore mark cost trail) (r .at) (r .count)
+        (scratchAfter mark cost trail) (now (list .exit)) ⌝ }
 {
     let mut waiting = 1;
     let mut count = 0;
     while waiting != 0 {
         let x = cell_of(heap[1]);
-        if leads(
+        if stops(
             head.width,
             head.height,
             n,
@@ -74,42 +73,4 @@ fn hunt(
         at: n,
         count: count,
     }
-}
-
-// The search of a plan over accepted data, whatever the lists hold: it starts, and hunts.
-pub fn search(
-    head: Head,
-    n: usize,
-    ground: &[u8],
-    learned: &[u16],
-    link: &[u8],
-    mark: &mut [u8],
-    cost: &mut [u16],
-    trail: &mut [u8],
-    heap: &mut [u64],
-    place: &mut [u16],
-    gone: &mut [u8],
-    list: &mut [u16],
-) -> End
-    requires { ⌜ Searchable head (lentWith (now ground) (now learned) (now link)) n (scratchWith (now mark) (now cost) (now trail)) (now heap) (now place) (now gone) (now list) ⌝ }
-    ensures { λ r. ⌜ Hunted head (lentWith (now (ground .entry)) (now (learned .entry)) (now (link .entry))) n
-        (scratchWith (now (mark .entry)) (now (cost .entry)) (now (trail .entry))) (r .at) (r .count)
-        (scratchWith (now (mark .exit)) (now (cost .exit)) (now (trail .exit))) (now (list .exit)) ⌝ }
-{
-    clear(gone, n);
-    start(n, head.cell, learned, mark, cost, trail, heap, place);
-    hunt(
-        head,
-        n,
-        ground,
-        learned,
-        link,
-        mark,
-        cost,
-        trail,
-        heap,
-        place,
-        gone,
-        list,
-    )
 }

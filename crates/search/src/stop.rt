@@ -1,11 +1,11 @@
 // The stop test with its memory: a cell once walked without reaching the goal never leads there during this search, since
 // links and learned values stay. So all stop tests of one search together walk each cell once.
-use steps::beside;
-ghost use Rattle.search.specs.Gone.{Gone, Tested, Testable};
+use grid::routes::descend;
+ghost use Rattle.search.specs.Memory.{Gone, Tested, Testable};
 
 // Whether links lead from c to the goal with the learned value falling by exactly 1 at each step. Cells walked are marked
 // in gone; where the goal is reached the search is over, and the marks with it.
-pub fn leads(
+pub fn stops(
     width: usize,
     height: usize,
     n: usize,
@@ -22,22 +22,16 @@ pub fn leads(
     let mut at = c;
     let mut left = learned[c];
     while at != goal {
-        if left == 0 {
-            return false;
-        }
         if gone[at] != 0 {
             return false;
         }
         gone[at] = 1;
-        let next = beside(width, height, n, at, at % width, link[at]);
+        let next = descend(width, height, n, learned, link, at, left);
         if n <= next {
             return false;
         }
-        if learned[next] != left - 1 {
-            return false;
-        }
         at = next;
-        left = left - 1;
+        left -= 1;
     }
     true
 }

@@ -4,6 +4,24 @@ use borrow.Author.Needs.{needs}
 use Rattle.drive.proofs.drive.Statement.{statement}
 use Rattle.drive.proofs.drive.Tie as tie
 
+-- The places that the needs name (tools/name-places writes this block).
+abbrev entry : tie.Start → tie.Start
+entry p = p
+
+abbrev after-plan-check : tie.After-plan-check → tie.After-plan-check
+after-plan-check p = p
+
+abbrev after-enum-told2 : tie.After-enum-told2 → tie.After-enum-told2
+after-enum-told2 p = p
+
+abbrev after-plan-check-back : tie.After-plan-check → tie.Start
+after-plan-check-back p = search p
+
+abbrev after-enum-told2-back : tie.After-enum-told2 → tie.After-plan-check
+after-enum-told2-back p = search p
+
+ruleset past = (after-plan-check-back, after-enum-told2-back)
+
 slice-aggregate-layout : tie.Need-slice-aggregate-layout
 slice-aggregate-layout c = search needs
 
@@ -65,7 +83,8 @@ slice-aggregate-tell-6 : tie.Need-slice-aggregate-tell-6
 slice-aggregate-tell-6 c = search needs
 
 tell-requires : tie.Need-tell-requires
-tell-requires c κs = (sym ((c .before .before .before .before .before .before .before .before .plan-check) .ensures) ∙ (c .before .before .before .before .before .before .enum-told2) .given .1, (c .before .before .before .before .before .before .before .before .before .before .before .before .before .before .before .before .before .before .before .before .before .before .before .before .pre))
+tell-requires c κs =
+    (sym (after-plan-check (search past) .plan-check .ensures) ∙ after-enum-told2 (search past) .enum-told2 .given .1, (entry (search past) .pre))
 
 returns-2 : tie.Need-returns-2
 returns-2 c = search needs

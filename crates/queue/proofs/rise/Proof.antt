@@ -1,7 +1,7 @@
 -- `queue::rise` meets its contract. The loop keeps a gap into which the key in hand may rise (`Climb`); the gap's number falls. Assumes nothing.
 use lib.ListN.{length-set}
 use mathlib.Core.Path.{refl}
-use Rattle.queue.proofs.Climbing.{Climb, climb-up, climb-cell, climb-end}
+use Rattle.queue.proofs.GapRises.{Climb, climb-up, climb-cell, climb-end}
 use borrow.Author.Needs.{needs}
 use Rattle.queue.proofs.rise.Statement.{statement}
 use Rattle.queue.proofs.rise.Tie as tie
@@ -11,6 +11,10 @@ Inv-loop heap₀ place₀ n len at v i₀ heap place i = Climb n len heap₀ pla
 
 abbrev μ-loop : tie.MeasureT-loop
 μ-loop heap₀ place₀ n len at v i₀ heap place i = i
+
+-- The places that the needs name (tools/name-places writes this block).
+abbrev at-loop : tie.At-loop Inv-loop μ-loop → tie.At-loop Inv-loop μ-loop
+at-loop p = p
 
 loop-holds : tie.Need-loop-holds Inv-loop μ-loop
 loop-holds c = record { rising = c .before .before .pre; keys = λ f k. k; h-same = refl; q-same = refl }
@@ -43,13 +47,13 @@ mul-place : tie.Need-mul-place Inv-loop μ-loop
 mul-place c = search needs
 
 slice-write-place : tie.Need-slice-write-place Inv-loop μ-loop
-slice-write-place c = climb-cell _ (c .before .before .before .before .loop .inv) (c .cell-of .ensures) (c .before .before .if1 .taken)
+slice-write-place c = climb-cell _ (at-loop (search c) .loop .inv) (c .cell-of .ensures) (c .before .before .if1 .taken)
 
 loop-less : tie.Need-loop-less Inv-loop μ-loop
 loop-less c = search needs
 
 loop-again : tie.Need-loop-again Inv-loop μ-loop
-loop-again c = climb-up _ (c .before .before .before .before .loop .inv) (c .cell-of .ensures) (c .before .before .if1 .taken)
+loop-again c = climb-up _ (at-loop (search c) .loop .inv) (c .cell-of .ensures) (c .before .before .if1 .taken)
 
 mul-heap-2 : tie.Need-mul-heap-2 Inv-loop μ-loop
 mul-heap-2 c = search needs
@@ -70,13 +74,13 @@ slice-write-place-2 : tie.Need-slice-write-place-2 Inv-loop μ-loop
 slice-write-place-2 c = search needs
 
 same-length : tie.Need-same-length Inv-loop μ-loop
-same-length c = simp length-set (c .before .before .before .loop .inv .h-same)
+same-length c = simp length-set (at-loop (search c) .loop .inv .h-same)
 
 same-length-2 : tie.Need-same-length-2 Inv-loop μ-loop
-same-length-2 c = simp length-set (c .before .before .before .loop .inv .q-same)
+same-length-2 c = simp length-set (at-loop (search c) .loop .inv .q-same)
 
 returns : tie.Need-returns Inv-loop μ-loop
-returns c = climb-end _ (c .before .before .before .loop .inv) (c .cell-of2 .ensures) (search needs)
+returns c = climb-end _ (at-loop (search c) .loop .inv) (c .cell-of2 .ensures) (search needs)
 
 pub rise-spec : {M : Type 1} → statement M
 rise-spec =

@@ -1,15 +1,35 @@
--- `salenduro_buffers_load` meets its contract: a short head array, or what the call answers (`Hosting`). Assumes nothing.
-use Rattle.salenduro.proofs.Hosting.{load-short, load-called}
+-- `salenduro_buffers_load` meets its contract: a short head array, or what the call answers (`BufferCases`). Assumes nothing.
+use Rattle.salenduro.proofs.buffers.BufferCases.{host-short, headed-called}
+use Rattle.salenduro.specs.Buffers.{loadedHost}
 use native.Mathlib.Omega.{arith}
 use borrow.Author.Needs.{needs}
 use Rattle.salenduro.proofs.buffers.salenduro_buffers_load.Statement.{statement}
 use Rattle.salenduro.proofs.buffers.salenduro_buffers_load.Tie as tie
 
-refused-requires : tie.Need-refused-requires
-refused-requires c κs = search needs
+-- The places that the needs name (tools/name-places writes this block).
+abbrev else1 : tie.Else1 → tie.Else1
+else1 p = p
+
+abbrev after-load : tie.After-load → tie.After-load
+after-load p = p
+
+abbrev after-set-head : tie.After-set-head → tie.After-set-head
+after-set-head p = p
+
+abbrev after-load-back : tie.After-load → tie.Else1
+after-load-back p = search p
+
+abbrev after-set-head-back : tie.After-set-head → tie.After-load
+after-set-head-back p = search p
+
+ruleset past = (after-load-back, after-set-head-back)
+
+refusal-requires : tie.Need-refusal-requires
+refusal-requires c κs = search needs
 
 returns : tie.Need-returns
-returns c = load-short _ _ ((c .refused) .ensures) (omega arith) _
+unfolding loadedHost
+returns c = host-short _ _ (c .refusal .ensures) (omega arith) _
 
 load-requires : tie.Need-load-requires
 load-requires c κs = search needs
@@ -33,13 +53,16 @@ same-length-4 : tie.Need-same-length-4
 same-length-4 c = search needs
 
 returns-2 : tie.Need-returns-2
-returns-2 c = load-called _ _ ((c .before .before .before .before .before .before .before .before .before .before .before .before .before .before .before .if1) .left) _ ((c .before .before .before .before .before .before .before .before .before .before .before .load) .ensures) ((c .before .before .before .set-head) .ensures) ((c .changed-answer) .ensures)
+unfolding loadedHost
+returns-2 c =
+    headed-called _ _ _ (else1 (search past) .if1 .left) (after-load (search past) .load .ensures) (after-set-head (search past) .set-head .ensures)
+    (c .changed-answer .ensures)
 
 pub salenduro-buffers-load-spec : {M : Type 1} → statement M
 salenduro-buffers-load-spec =
     tie.close
     (tie.spec
-    refused-requires
+    refusal-requires
     returns
     load-requires
     set-head-requires

@@ -1,39 +1,56 @@
--- `salenduro_buffers_save` meets its contract: a short head array, or what the call answers (`Hosting`). Assumes nothing.
-use Rattle.salenduro.proofs.Fitting.{save-fits}
-use Rattle.salenduro.proofs.Hosting.{save-short, save-called}
+-- `salenduro_buffers_save` meets its contract: a short head array, or what the call answers (`BufferCases`). Assumes nothing.
+use Rattle.salenduro.proofs.AnswersFit.{save-fits}
+use Rattle.salenduro.proofs.buffers.BufferCases.{fill-short, save-called}
+use Rattle.salenduro.specs.Buffers.{savedHost}
 use native.Mathlib.Omega.{arith}
 use borrow.Author.Needs.{needs}
 use Rattle.salenduro.proofs.buffers.salenduro_buffers_save.Statement.{statement}
 use Rattle.salenduro.proofs.buffers.salenduro_buffers_save.Tie as tie
 
-refused-requires : tie.Need-refused-requires
-refused-requires c κs = search needs
+-- The places that the needs name (tools/name-places writes this block).
+abbrev entry : tie.Start → tie.Start
+entry p = p
+
+abbrev else1 : tie.Else1 → tie.Else1
+else1 p = p
+
+abbrev after-head-in : tie.After-head-in → tie.After-head-in
+after-head-in p = p
+
+abbrev after-save : tie.After-save → tie.After-save
+after-save p = p
+
+refusal-requires : tie.Need-refusal-requires
+refusal-requires c κs = search needs
 
 returns : tie.Need-returns
-returns c = save-short _ _ ((c .refused) .ensures) (omega arith) _
+unfolding savedHost
+returns c = fill-short (entry (search c) .args .head .now) _ (c .refusal .ensures) (omega arith) _
 
-head-of-requires : tie.Need-head-of-requires
-head-of-requires c κs = search needs
+head-in-requires : tie.Need-head-in-requires
+head-in-requires c κs = search needs
 
 save-requires : tie.Need-save-requires
 save-requires c κs = search needs
 
 save-answer-requires : tie.Need-save-answer-requires
-save-answer-requires c κs = save-fits _ _ _ ((c .before .before .save) .ensures)
+save-answer-requires c κs = save-fits _ _ _ (after-save (search c) .save .ensures)
 
 same-length : tie.Need-same-length
 same-length c = search needs
 
 returns-2 : tie.Need-returns-2
-returns-2 c = save-called _ _ ((c .before .before .before .before .before .before .if1) .left) ((c .before .before .before .before .before .head-of) .ensures) _ ((c .before .before .before .save) .ensures) ((c .save-answer) .ensures)
+returns-2 c =
+    save-called _ _ (else1 (search c) .if1 .left) (after-head-in (search c) .head-in .ensures) _ (after-save (search c) .save .ensures)
+    (c .save-answer .ensures)
 
 pub salenduro-buffers-save-spec : {M : Type 1} → statement M
 salenduro-buffers-save-spec =
     tie.close
     (tie.spec
-    refused-requires
+    refusal-requires
     returns
-    head-of-requires
+    head-in-requires
     save-requires
     save-answer-requires
     same-length

@@ -1,0 +1,2 @@
+-- Move's answer in each of its cases.
+pub mod MoveCases

@@ -1,0 +1,2 @@
+-- The distances, row by row.
+pub mod RowDistances

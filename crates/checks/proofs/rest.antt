@@ -1,0 +1,2 @@
+-- What is left of report's tests.
+pub mod ReportRest

@@ -1,0 +1,2 @@
+-- The text of a drawing, written part by part.
+pub mod TextWritten

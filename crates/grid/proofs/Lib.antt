@@ -1,0 +1,2 @@
+-- A walk along links, step by step.
+pub mod LinkWalk

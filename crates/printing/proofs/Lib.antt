@@ -1,0 +1,2 @@
+-- Text put behind text.
+pub mod Appended

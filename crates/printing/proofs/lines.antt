@@ -1,0 +1,2 @@
+-- Two numbers behind words.
+pub mod PlanLine

@@ -1,0 +1,3 @@
+-- Four bits spread over four bytes, and the two bytes of a number exchanged.
+pub mod ByteExchange
+pub mod SpreadBits

@@ -1,0 +1,3 @@
+-- Load's tests are document 01's, and its cases.
+pub mod LoadTests
+pub mod LoadCases

@@ -1,0 +1,2 @@
+-- Plan's three cases once its tests have passed.
+pub mod ReplanCases

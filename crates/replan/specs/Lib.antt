@@ -1,0 +1,3 @@
+-- What the core of plan is handed, and the learned values that it raises.
+pub mod Passed
+pub mod Raised

@@ -1,0 +1,2 @@
+-- Stores into a head array.
+pub mod HeadStores

@@ -1,0 +1,2 @@
+-- What a search begins with.
+pub mod BeginLaws

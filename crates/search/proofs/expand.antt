@@ -1,0 +1,2 @@
+-- A look at a cell, and four looks as an expansion.
+pub mod LookLaws

@@ -1,0 +1,2 @@
+-- The walk of a stop test.
+pub mod StopWalk

@@ -1,5 +1,0 @@
-pub mod Rows
-pub mod Scans
-pub mod Flags
-pub mod Flatness
-pub mod Spreading

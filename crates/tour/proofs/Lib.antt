@@ -1,4 +1,0 @@
-pub mod Looking
-pub mod Falling
-pub mod Going
-pub mod Turning

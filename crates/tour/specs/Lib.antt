@@ -1,3 +1,0 @@
-pub mod Turning
-pub mod Looking
-pub mod Example
