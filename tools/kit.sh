@@ -32,8 +32,8 @@ kit_compile() {
 # kit_link PROGRAM PART..
 kit_link() { kit_find && "$kit_own/bin/rattle-link" --target $kit_target --toolchain "$kit_tools" -o "$@"; }
 
-# kit_words PROGRAM: the words that start it, as the list kit_words; on a processor other than x86-64 the first is the kit's emulator.
-kit_words() {
+# kit_find_words PROGRAM: the words that start it, as the list kit_words; on a processor other than x86-64 the first is the kit's emulator.
+kit_find_words() {
     kit_find || return
     kit_words=("$kit_tools/lib/ld-linux-x86-64.so.2" --library-path "$kit_tools/lib" "$1")
     [ ! -x "$kit_tools/bin/qemu-x86_64" ] || kit_words=("$kit_tools/bin/qemu-x86_64" "${kit_words[@]}")
@@ -42,7 +42,7 @@ kit_words() {
 if [ "${BASH_SOURCE[0]}" = "$0" ]; then
     case $#:${1:-} in
     2:fresh) kit_fresh "$2" ;;
-    2:words) kit_words "$2" && printf '%s\n' "${kit_words[@]}" ;;
+    2:words) kit_find_words "$2" && printf '%s\n' "${kit_words[@]}" ;;
     *) sed -n 's/^#   //p' "$0" >&2 && exit 2 ;;
     esac
 fi

@@ -8,7 +8,7 @@ use Rattle.model.specs.Layout.{laidOut}
 use Rattle.model.specs.Report.{reported}
 use Rattle.model.specs.Plan.{AfterPlan, afterPlan, planned}
 use Rattle.model.specs.Move.{moved}
-use Rattle.model.specs.Listing.{AfterList, listed, listNumber}
+use Rattle.model.specs.Listing.{AfterList, listed, listQuestion}
 use Rattle.model.specs.declared.Head.{Head}
 use Rattle.model.specs.declared.Changed.{Changed}
 use Rattle.model.specs.declared.Planned.{Planned}
@@ -66,5 +66,5 @@ module _ (head : Head) (p : Lent) where
   count-coincides buffer f g = (coincide (f .count) (g .count), ap (λ (a : AfterList). a .buffer) (coincide (f .leaves) (g .leaves)))
 
   -- the question: one number
-  pub question-coincides : (buffer : List ℕ) {r r′ : ℕ} → r ≡ listNumber head p buffer → r′ ≡ listNumber head p buffer → r ≡ r′
+  pub question-coincides : (buffer : List ℕ) {r r′ : ℕ} → r ≡ listQuestion head p buffer → r′ ≡ listQuestion head p buffer → r ≡ r′
   question-coincides buffer = coincide

@@ -22,6 +22,6 @@ pub record Writable (w h v c : ℕ) (link buffer : List ℕ) : Type 0 where
   pub room : v < length buffer
 
 -- the k cells of the route stand at the front of l, which was the buffer; "entries after it stay"
-pub record Filled (head : Head) (p : Lent) (buffer : List ℕ) (k : ℕ) (l : List ℕ) : Type 0 where
+pub record RouteFilled (head : Head) (p : Lent) (buffer : List ℕ) (k : ℕ) (l : List ℕ) : Type 0 where
   pub count : k ≡ length (route head p)
   pub is : l ≡ fronted (route head p) buffer

@@ -8,10 +8,10 @@ use model::Verdict;
 ghost use mathlib.Core.Path.{_≡_};
 ghost use Rattle.model.specs.Lent.{fronted, lentNow, lentBefore};
 ghost use Rattle.model.specs.Route.{cellsFrom};
-ghost use Rattle.model.specs.Listing.{listCheck, listed, listNumber};
+ghost use Rattle.model.specs.Listing.{listCheck, listed, listQuestion};
 ghost use Rattle.model.specs.Ways.{Accepts};
 ghost use Rattle.model.specs.declared.Verdict.the-variants.{Accepted};
-ghost use Rattle.calls.specs.RouteWritten.{Writable, Filled};
+ghost use Rattle.calls.specs.RouteWritten.{Writable, RouteFilled};
 ghost use Rattle.calls.specs.Counted.{Counted};
 
 // Whether list is refused: the buffer is asked after the route. (The ground is lent for the contract alone, here and below.)
@@ -56,7 +56,7 @@ pub fn fill_route(
     buffer: &mut [u16],
 ) -> usize
     requires { ⌜ listCheck head (lentNow ground learned link) (now buffer) ≡ Accepted ⌝ }
-    ensures { λ r. ⌜ Filled head (lentBefore ground learned link) (now (buffer .entry)) r (now (buffer .exit)) ⌝ }
+    ensures { λ r. ⌜ RouteFilled head (lentBefore ground learned link) (now (buffer .entry)) r (now (buffer .exit)) ⌝ }
 {
     let cell = head.cell;
     let steps = learned[cell] as usize;
@@ -83,7 +83,7 @@ pub fn list_question(
     link: &[u8],
     buffer: &[u16],
 ) -> usize
-    ensures { λ r. ⌜ r ≡ listNumber head (lentBefore ground learned link) (now (buffer .entry)) ⌝ }
+    ensures { λ r. ⌜ r ≡ listQuestion head (lentBefore ground learned link) (now (buffer .entry)) ⌝ }
 {
     let verdict = list_check(head, ground, learned, link, buffer);
     match verdict {

@@ -83,6 +83,6 @@ pub record Paired (step n : ℕ) (ground learned link end : List ℕ) : Type 0 w
 pub record Clear (end : List ℕ) : Type 0 where
   pub zero : (i : ℕ) → getD end i 0 ≡ 0
 
-pub record Marked (w h : ℕ) (end : List ℕ) : Type 0 where
+pub record EndsMarked (w h : ℕ) (end : List ℕ) : Type 0 where
   pub inside : (r c : ℕ) → c + 1 < w → getD end (r * w + c) 0 ≡ 0
   pub last : (r c : ℕ) → r < h → c + 1 ≡ w → getD end (r * w + c) 0 ≡ 1

@@ -11,7 +11,7 @@ ghost use Rattle.model.specs.Lent.{lentBefore};
 ghost use Rattle.model.specs.Sound.{sound};
 ghost use Rattle.checks.specs.Given.{Given};
 ghost use Rattle.checks.specs.Flat.{cellTest, cellAt, smallAt, nearTest, nearAt, leadTest, leadAt, pairs, edgeTest, edgeAt, alone, InRows};
-ghost use Rattle.checks.specs.Flat.{Paired, Clear, Marked};
+ghost use Rattle.checks.specs.Flat.{Paired, Clear, EndsMarked};
 
 // A cell's own bytes: ground is 0 or 1, the link at most 4, and one of them 0.
 fn cell_test(g: u8, k: u8) -> bool
@@ -151,7 +151,7 @@ fn edges_ok(link: &[u8], low: usize, w: usize) -> bool
 // Writes 1 at the last cell of each of h rows.
 fn mark_ends(end: &mut [u8], w: usize, h: usize)
     requires { ⌜ (0 < w) × (h * w ≤ length (now end)) × Clear (now end) ⌝ }
-    ensures { λ _. ⌜ Marked w h (now (end .exit)) ⌝ }
+    ensures { λ _. ⌜ EndsMarked w h (now (end .exit)) ⌝ }
 {
     let mut row = 0;
     let mut at = w - 1;
@@ -164,7 +164,7 @@ fn mark_ends(end: &mut [u8], w: usize, h: usize)
 
 // The pairs of a cell and the next one; end is 1 at the last cell of a row. That 1 is the step: a compiler that knows the step
 // carries half of each vector over to the next iteration, which takes longer than to load it again.
-fn rights_ok(ground: &[u8], learned: &[u16], link: &[u8], end: &[u8], w: usize, n: usize) -> bool
+fn right_pairs(ground: &[u8], learned: &[u16], link: &[u8], end: &[u8], w: usize, n: usize) -> bool
     requires { ⌜ (0 < w) × (w ≤ n) × (n ≤ length (now end)) × (getD (now end) (w - 1) 0 ≡ 1)
         × Paired 1 (n - 1) (now ground) (now learned) (now link) (now end) ⌝ }
     ensures { λ r. ⌜ r ≡ pairs 1 1 3 (n - 1) (now (ground .entry)) (now (learned .entry)) (now (link .entry)) (now (end .entry)) ⌝ }
@@ -203,6 +203,6 @@ pub fn sound(head: Head, ground: &[u8], learned: &[u16], link: &[u8]) -> bool
     let mut end: [u8; Head::MAX_CELLS] = [0; Head::MAX_CELLS];
     let below = pairs(ground, learned, link, &end, w, 2, 4, n - w);
     mark_ends(&mut end, w, h);
-    let right = rights_ok(ground, learned, link, &end, w, n);
+    let right = right_pairs(ground, learned, link, &end, w, n);
     alone(ground, learned, link, w, n, head.goal, head.cell) & (right & below)
 }

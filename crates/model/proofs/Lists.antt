@@ -10,7 +10,7 @@ pub mod FillLoop
 pub mod Scans
 -- Gathered: parts put one after the other.
 pub mod Gathered
--- Fronted: a buffer with another front.
+-- Fronted: a buffer with another front; two fronts that are the same.
 pub mod Fronted
 -- Bits: a sum of bits has those bits.
 pub mod Bits

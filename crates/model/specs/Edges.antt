@@ -11,7 +11,7 @@ use Rattle.model.specs.Layout.{laidOut}
 use Rattle.model.specs.Report.{reported}
 use Rattle.model.specs.Plan.{planned}
 use Rattle.model.specs.Move.{moved}
-use Rattle.model.specs.Listing.{listed, listNumber}
+use Rattle.model.specs.Listing.{listed, listQuestion}
 use Rattle.model.specs.Store.{saved, loaded}
 use Rattle.model.specs.Controller.{reportedC, plannedC, movedC}
 use Rattle.model.specs.Examples.{definitions}
@@ -97,8 +97,8 @@ refusal-order = refl
 
 -- "the list buffer's 2 comes after 6, the save buffer's after 4"; list writes the front of its buffer, and its question agrees
 pub list-and-question :
-    listNumber (headAt 2 1 1 0) (pair 2 1) [] ∷ listNumber (headAt 2 1 1 0) (pair 1 0) [] ∷ listNumber (headAt 2 1 1 0) (pair 1 1) (nines 1)
-    ∷ listNumber (headAt 2 1 1 0) (pair 1 1) (nines 2)
+    listQuestion (headAt 2 1 1 0) (pair 2 1) [] ∷ listQuestion (headAt 2 1 1 0) (pair 1 0) [] ∷ listQuestion (headAt 2 1 1 0) (pair 1 1) (nines 1)
+    ∷ listQuestion (headAt 2 1 1 0) (pair 1 1) (nines 2)
     ∷ save 0 (pair 2 0) ∷ []
     ≡ 4 ∷ 6 ∷ 2 ∷ 0 ∷ 70004 ∷ []
 unfolding definitions

@@ -21,7 +21,7 @@ use Rattle.model.specs.Move.{moved}
 use Rattle.model.specs.Record.{lowBits, groundByte, learnedBytes, recordOf, recordLength, headOf, groundIn, learnedIn, linkIn, readInto, same}
 use Rattle.model.specs.Record.{sidesFormed, formed}
 use Rattle.model.specs.Store.{saveCheck, saved, loadCheck, loaded}
-use Rattle.model.specs.Listing.{listCheck, listed, listNumber}
+use Rattle.model.specs.Listing.{listCheck, listed, listQuestion}
 use Rattle.model.specs.Controller.{onRecord, reportedC, plannedC, movedC}
 use Rattle.model.specs.declared.Head.{Head}
 use Rattle.model.specs.declared.Outcome.{Outcome}
@@ -37,17 +37,17 @@ unfolding every tally filled gathered
     reportCheck linkOnceBlocked unlinked blocked reported
     begun smallerFirst earlier sooner best looked expanded run
     planCheck searched expandedCount lesson relinked improved concluded planned
-    moved listCheck listed listNumber
+    moved listCheck listed listQuestion
     lowBits groundByte learnedBytes recordOf headOf groundIn learnedIn linkIn readInto same sidesFormed formed
     saveCheck saved loadCheck loaded
     onRecord reportedC plannedC movedC
 definitions = 0
 
-pub data Call : Type 0 where
-  report : (cell : ℕ) → Call
-  plan : Call
-  move : Call
-  load : (bytes : List ℕ) → Call
+pub data ExampleCall : Type 0 where
+  report : (cell : ℕ) → ExampleCall
+  plan : ExampleCall
+  move : ExampleCall
+  load : (bytes : List ℕ) → ExampleCall
 
 -- one thing to look at after the calls, with what it should be
 pub data Seen : Type 0 where
@@ -70,11 +70,11 @@ pub record Example : Type 0 where
   pub height : ℕ
   pub start : ℕ
   pub goal : ℕ
-  pub calls : List Call
+  pub calls : List ExampleCall
   pub seen : List Seen
 
 -- a state between calls, with the last answers
-pub record State : Type 0 where
+pub record Situation : Type 0 where
   pub head : Head
   pub lists : Lent
   pub work : Scratch
@@ -88,7 +88,7 @@ room n = replicate (n + 1) 9
 abbrev pub roomy : ℕ → Lent
 roomy n = lentWith (room n) (room n) (room n)
 
-abbrev pub begin : Example → State
+abbrev pub begin : Example → Situation
 begin e =
     let n = e .width * e .height in
     let r = laidOut (e .width) (e .height) (e .start) (e .goal) (roomy n) in
@@ -101,7 +101,7 @@ begin e =
       step = Step.Moved;
     }
 
-abbrev pub call : State → Call → State
+abbrev pub call : Situation → ExampleCall → Situation
 call s (report c) =
     let r = reported (s .head) (s .lists) c in
     record { head = r .answer .head; lists = r .lists; work = s .work; outcome = s .outcome; count = s .count; step = s .step }
@@ -115,12 +115,12 @@ call s (load bytes) =
     let r = loaded bytes (s .lists) in
     record { head = r .answer .head; lists = r .lists; work = s .work; outcome = s .outcome; count = s .count; step = s .step }
 
-abbrev pub callAll : State → List Call → State
+abbrev pub callAll : Situation → List ExampleCall → Situation
 callAll s [] = s
 callAll s (c ∷ cs) = callAll (call s c) cs
 
 -- the same thing, as it is
-abbrev pub look : State → Seen → Seen
+abbrev pub look : Situation → Seen → Seen
 look s (cart-on c) = cart-on (s .head .cell)
 look s (learned-is l) = learned-is (s .lists .learned)
 look s (links-are l) = links-are (s .lists .link)
@@ -141,7 +141,7 @@ asIs e = map (look (callAll (begin e) (e .calls))) (e .seen)
 abbrev pub asExpected : Example → List Seen
 asExpected e = e .seen
 
-unfoldable pub on : (w h start goal : ℕ) → List Call → List Seen → Example
+unfoldable pub on : (w h start goal : ℕ) → List ExampleCall → List Seen → Example
 on w h start goal calls seen = record { width = w; height = h; start = start; goal = goal; calls = calls; seen = seen }
 
 pub table : List Example

@@ -33,5 +33,5 @@ listed head p buffer =
     ]
 
 -- "gives the refusal's number, or 0 where list would write"
-unfoldable pub listNumber : Head → Lent → (buffer : List ℕ) → ℕ
-listNumber head p buffer = verdictNumber (listCheck head p buffer)
+unfoldable pub listQuestion : Head → Lent → (buffer : List ℕ) → ℕ
+listQuestion head p buffer = verdictNumber (listCheck head p buffer)

@@ -15,7 +15,7 @@ use Rattle.model.specs.Refusals.{andThen}
 use Rattle.model.specs.Layout.{layoutCheck, laidOut}
 use Rattle.model.specs.Report.{reportCheck, reported}
 use Rattle.model.specs.Plan.{AfterPlan, planCheck}
-use Rattle.model.specs.Listing.{listCheck, listed, listNumber}
+use Rattle.model.specs.Listing.{listCheck, listed, listQuestion}
 use Rattle.model.specs.Store.{saveCheck, saved, loadCheck, loaded}
 use Rattle.model.specs.Controller.{ownRoom, ownScratch, AfterC, stateIn, reportedC, plannedC, movedC}
 use Rattle.model.specs.declared.Head.{Head}
@@ -34,35 +34,35 @@ use Rattle.promises.specs.Asking.{left, number, numberC, headIn, headOut
 use Rattle.promises.proofs.VerdictRows.{moveCheck, verdict}
 
 -- what a call answers and leaves, by its verdict
-pub data Ends (a : Ask) (r : Result a) : Verdict → Type 0 where
-  accepts : number a r ≡ 0 → Ends a r Accepted
-  refuses : {why : Reason} → number a r ≡ reasonNumber why → left a r ≡ lent a → headOut a r ≡ headIn a → Ends a r (Refused why)
+pub data CallEnds (a : Ask) (r : Result a) : Verdict → Type 0 where
+  accepts : number a r ≡ 0 → CallEnds a r Accepted
+  refuses : {why : Reason} → number a r ≡ reasonNumber why → left a r ≡ lent a → headOut a r ≡ headIn a → CallEnds a r (Refused why)
 
 -- The calls over lent buffers -----------------------------------------------------------------------------------------------------------
 
-layout-ends : (w h start goal : ℕ) (p : Lent) → Ends (layout w h start goal p) (laidOut w h start goal p) (layoutCheck w h start goal p)
+layout-ends : (w h start goal : ℕ) (p : Lent) → CallEnds (layout w h start goal p) (laidOut w h start goal p) (layoutCheck w h start goal p)
 unfolding laidOut
 layout-ends w h start goal p = go _ refl
   where
-    go : (v : Verdict) → layoutCheck w h start goal p ≡ v → Ends (layout w h start goal p) (laidOut w h start goal p) v
+    go : (v : Verdict) → layoutCheck w h start goal p ≡ v → CallEnds (layout w h start goal p) (laidOut w h start goal p) v
     go Accepted e = accepts (rw (laidOut, e))
     go (Refused why) e = refuses {why = why} (rw (laidOut, e)) (rw (laidOut, e)) (rw (laidOut, e))
 
-report-ends : (head : Head) (p : Lent) (c : ℕ) → Ends (report head p c) (reported head p c) (reportCheck head p c)
+report-ends : (head : Head) (p : Lent) (c : ℕ) → CallEnds (report head p c) (reported head p c) (reportCheck head p c)
 unfolding reported
 report-ends head p c = go _ refl
   where
-    go : (v : Verdict) → reportCheck head p c ≡ v → Ends (report head p c) (reported head p c) v
+    go : (v : Verdict) → reportCheck head p c ≡ v → CallEnds (report head p c) (reported head p c) v
     go Accepted e = accepts (rw (reported, e))
     go (Refused why) e = refuses {why = why} (rw (reported, e)) (rw (reported, e)) (rw (reported, e))
 
-plan-ends : (head : Head) (p : Lent) (s : Scratch) {r : AfterPlan} → Planning head p s r → Ends (plan head p s) r (planCheck head p s)
+plan-ends : (head : Head) (p : Lent) (s : Scratch) {r : AfterPlan} → Planning head p s r → CallEnds (plan head p s) r (planCheck head p s)
 plan-ends head p s (plan-refused e) = rw e (refuses refl refl refl)
 plan-ends head p s (plan-there a ok d) = rw ok (accepts refl)
 plan-ends head p s (plan-none a ok d x) = rw ok (accepts refl)
 plan-ends head p s (plan-found a ok d x) = rw ok (accepts refl)
 
-move-ends : (head : Head) (p : Lent) {r : After Moved} → Moving head p r → Ends (move head p) r (moveCheck head p)
+move-ends : (head : Head) (p : Lent) {r : After Moved} → Moving head p r → CallEnds (move head p) r (moveCheck head p)
 move-ends head p (move-refused e) = rw e (refuses refl refl refl)
 move-ends head p (move-there a e) =
     let t : stands head p ≡ true = rw e (leads-goal (head .width) (head .height) (head .goal) (p .learned) (p .link) _) in
@@ -70,35 +70,35 @@ move-ends head p (move-there a e) =
 move-ends head p (move-lost a d t) = rw (held-accepts head p a, t) (refuses refl refl refl)
 move-ends head p (move-went a d t) = rw (held-accepts head p a, t) (accepts refl)
 
-list-ends : (head : Head) (p : Lent) (buffer : List ℕ) → Ends (list head p buffer) (listed head p buffer) (listCheck head p buffer)
-unfolding listed listNumber
+list-ends : (head : Head) (p : Lent) (buffer : List ℕ) → CallEnds (list head p buffer) (listed head p buffer) (listCheck head p buffer)
+unfolding listed listQuestion
 list-ends head p buffer = go _ refl
   where
-    go : (v : Verdict) → listCheck head p buffer ≡ v → Ends (list head p buffer) (listed head p buffer) v
-    go Accepted e = accepts (rw (listNumber, e))
-    go (Refused why) e = refuses {why = why} (rw (listNumber, e)) (rw (listed, e)) refl
+    go : (v : Verdict) → listCheck head p buffer ≡ v → CallEnds (list head p buffer) (listed head p buffer) v
+    go Accepted e = accepts (rw (listQuestion, e))
+    go (Refused why) e = refuses {why = why} (rw (listQuestion, e)) (rw (listed, e)) refl
 
-question-ends : (head : Head) (p : Lent) (buffer : List ℕ) → Ends (question head p buffer) (listNumber head p buffer) (listCheck head p buffer)
-unfolding listNumber
+question-ends : (head : Head) (p : Lent) (buffer : List ℕ) → CallEnds (question head p buffer) (listQuestion head p buffer) (listCheck head p buffer)
+unfolding listQuestion
 question-ends head p buffer = go _ refl
   where
-    go : (v : Verdict) → listCheck head p buffer ≡ v → Ends (question head p buffer) (listNumber head p buffer) v
-    go Accepted e = accepts (rw (listNumber, e))
-    go (Refused why) e = refuses {why = why} (rw (listNumber, e)) refl refl
+    go : (v : Verdict) → listCheck head p buffer ≡ v → CallEnds (question head p buffer) (listQuestion head p buffer) v
+    go Accepted e = accepts (rw (listQuestion, e))
+    go (Refused why) e = refuses {why = why} (rw (listQuestion, e)) refl refl
 
-save-ends : (head : Head) (p : Lent) (buffer : List ℕ) → Ends (save head p buffer) (saved head p buffer) (saveCheck head p buffer)
+save-ends : (head : Head) (p : Lent) (buffer : List ℕ) → CallEnds (save head p buffer) (saved head p buffer) (saveCheck head p buffer)
 unfolding saved
 save-ends head p buffer = go _ refl
   where
-    go : (v : Verdict) → saveCheck head p buffer ≡ v → Ends (save head p buffer) (saved head p buffer) v
+    go : (v : Verdict) → saveCheck head p buffer ≡ v → CallEnds (save head p buffer) (saved head p buffer) v
     go Accepted e = accepts (rw (saved, e))
     go (Refused why) e = refuses {why = why} (rw (saved, e)) (rw (saved, e)) (rw (saved, e))
 
-load-ends : (bytes : List ℕ) (p : Lent) → Ends (load bytes p) (loaded bytes p) (loadCheck bytes p)
+load-ends : (bytes : List ℕ) (p : Lent) → CallEnds (load bytes p) (loaded bytes p) (loadCheck bytes p)
 unfolding loaded
 load-ends bytes p = go _ refl
   where
-    go : (v : Verdict) → loadCheck bytes p ≡ v → Ends (load bytes p) (loaded bytes p) v
+    go : (v : Verdict) → loadCheck bytes p ≡ v → CallEnds (load bytes p) (loaded bytes p) v
     go Accepted e = accepts (rw (loaded, e))
     go (Refused why) e = refuses {why = why} (rw (loaded, e)) (rw (loaded, e)) (rw (loaded, e))
 
@@ -124,15 +124,15 @@ on-c bytes own r k = go _ refl own refl
     go Accepted e Accepted f = record { told = accepted-by _ (k .done e f); kept = λ why q. absurd (not-both q refl) }
 
 module _ (bytes : List ℕ) where
-  reportC-ends : (c : ℕ) (v : Verdict) → OnC v bytes (reportedC bytes c) → Ends (reportC bytes c) (reportedC bytes c) v
+  reportC-ends : (c : ℕ) (v : Verdict) → OnC v bytes (reportedC bytes c) → CallEnds (reportC bytes c) (reportedC bytes c) v
   reportC-ends c Accepted o = accepts (o .told)
   reportC-ends c (Refused why) o = refuses (o .told) (ap (λ (l : List ℕ). l ∷ []) (o .kept why refl)) refl
 
-  planC-ends : (v : Verdict) → OnC v bytes (plannedC bytes) → Ends (planC bytes) (plannedC bytes) v
+  planC-ends : (v : Verdict) → OnC v bytes (plannedC bytes) → CallEnds (planC bytes) (plannedC bytes) v
   planC-ends Accepted o = accepts (o .told)
   planC-ends (Refused why) o = refuses (o .told) (ap (λ (l : List ℕ). l ∷ []) (o .kept why refl)) refl
 
-  moveC-ends : (v : Verdict) → OnC v bytes (movedC bytes) → Ends (moveC bytes) (movedC bytes) v
+  moveC-ends : (v : Verdict) → OnC v bytes (movedC bytes) → CallEnds (moveC bytes) (movedC bytes) v
   moveC-ends Accepted o = accepts (o .told)
   moveC-ends (Refused why) o = refuses (o .told) (ap (λ (l : List ℕ). l ∷ []) (o .kept why refl)) refl
 
@@ -171,7 +171,7 @@ then-plan bytes Accepted own e f = f refl
 then-plan bytes (Refused why) own e f = refl
 
 -- HOW EVERY CALL ENDS.
-pub ends : (a : Ask) → Ends a (result a) (verdict a)
+pub ends : (a : Ask) → CallEnds a (result a) (verdict a)
 unfolding verdict
 ends (layout w h start goal p) = layout-ends w h start goal p
 ends (report head p c) = report-ends head p c

@@ -8,7 +8,7 @@ use native.Mathlib.Omega.{arith}
 use lib.ListN.{length, getD}
 use Rattle.model.specs.Lent.{Lent}
 use Rattle.model.specs.Route.{route}
-use Rattle.model.specs.Listing.{AfterList, listed, listNumber}
+use Rattle.model.specs.Listing.{AfterList, listed, listQuestion}
 use Rattle.model.specs.Numbers.{reasonNumber, verdictNumber}
 use Rattle.model.specs.declared.Head.{Head}
 use Rattle.model.specs.declared.Reason.{Reason}
@@ -20,7 +20,7 @@ use Rattle.model.proofs.Calls.ListLaws.{ListingOf, list-refused, list-written, 
 use Rattle.promises.specs.Asking.{Ask, Result, result, lent, left, number, headIn, headOut}
 use Rattle.promises.specs.Table.{Rows}
 use Rattle.promises.proofs.VerdictRows.{verdict, follows}
-use Rattle.promises.proofs.CallEndings.{Ends, accepts, refuses, ends}
+use Rattle.promises.proofs.CallEndings.{CallEnds, accepts, refuses, ends}
 
 -- "Every call takes every input and ends": the definition gives a result for every call and every input, and what a contract
 -- allows is that result alone. (That contracts are these equations is said beside each call by its coinciding law; `list`, which
@@ -29,7 +29,7 @@ pub every-input-one-result : (a : Ask) → (r : Result a) × (r ≡ result a) ×
 every-input-one-result a = (result a, refl, λ r′ e. e)
 
 -- the number is the verdict's
-told : (a : Ask) {v : Verdict} → Ends a (result a) v → number a (result a) ≡ verdictNumber v
+told : (a : Ask) {v : Verdict} → CallEnds a (result a) v → number a (result a) ≡ verdictNumber v
 told a (accepts e) = e
 told a (refuses e l h) = e
 
@@ -56,22 +56,22 @@ accepted-exactly a = (
 pub refusal-changes-nothing : (a : Ask) → number a (result a) ≢ 0 → (left a (result a) ≡ lent a) × (headOut a (result a) ≡ headIn a)
 refusal-changes-nothing a n = go (ends a)
   where
-    go : {v : Verdict} → Ends a (result a) v → (left a (result a) ≡ lent a) × (headOut a (result a) ≡ headIn a)
+    go : {v : Verdict} → CallEnds a (result a) v → (left a (result a) ≡ lent a) × (headOut a (result a) ≡ headIn a)
     go (accepts e) = absurd (n e)
     go (refuses e l h) = (l, h)
 
 -- a refused list hands back the empty front, and no other does
-pub list-refused-exactly : (head : Head) (p : Lent) (buffer : List ℕ) → (listed head p buffer .front ≡ []) ↔ (listNumber head p buffer ≢ 0)
+pub list-refused-exactly : (head : Head) (p : Lent) (buffer : List ℕ) → (listed head p buffer .front ≡ []) ↔ (listQuestion head p buffer ≢ 0)
 unfolding route
 list-refused-exactly head p buffer = (λ e. empty (list-is head p buffer) e, λ n. go (list-is head p buffer) n)
   where
-    empty : {r : AfterList} → ListingOf head p buffer r → r .front ≡ [] → listNumber head p buffer ≢ 0
+    empty : {r : AfterList} → ListingOf head p buffer r → r .front ≡ [] → listQuestion head p buffer ≢ 0
     empty (list-refused {why = why} f) e q = absurd (not-both f (question-exactly head p buffer .0 q))
     empty (list-written f a t l) e q = absurd (omega (arith, ap length e, route-long))
       where
         route-long : length (route head p) ≡ getD (p .learned) (head .cell) 0 + 1
         route-long = cells-long _ _ _ _ _
 
-    go : {r : AfterList} → ListingOf head p buffer r → listNumber head p buffer ≢ 0 → r .front ≡ []
+    go : {r : AfterList} → ListingOf head p buffer r → listQuestion head p buffer ≢ 0 → r .front ≡ []
     go (list-refused f) n = refl
     go (list-written f a t l) n = absurd (n (question-exactly head p buffer .1 f))

@@ -30,7 +30,7 @@ use Rattle.model.specs.Fit.{Room, Held}
 use Rattle.model.proofs.Calls.Acceptance.{not-both, held-accepts}
 use Rattle.model.proofs.Record.RecordFields.{record-long}
 use Rattle.model.proofs.Calls.FirstEntries.{SameEntries}
-use Rattle.model.proofs.Search.Order.{First, less, equal, first-is, earlier-not-itself, earlier-trans, earlier-total, Foremost, foremost-is-best}
+use Rattle.model.proofs.Search.Order.{SmallerFirst, less, equal, first-is, earlier-not-itself, earlier-trans, earlier-total, Foremost, foremost-is-best}
 use Rattle.model.proofs.Calls.PlanAnswers.{route-exactly, no-way-exactly, arrived-exactly}
 use Rattle.model.proofs.Calls.PlanKeeps.{plan-keeps}
 use Rattle.model.proofs.Calls.MoveLaws.{Nearer, move-comes-nearer, standing-route-moves}
@@ -73,17 +73,17 @@ pub order-exactly : (learned : List ℕ) (s : Scratch) (a b : ℕ) → (earlier 
 unfolding earlier smallerFirst
 order-exactly learned s a b = (λ e. sum (first-is _ _ _ e), back)
   where
-    number : (t : total learned (s .cost) a ≡ total learned (s .cost) b) → getD (s .cost) b 0 ≡ getD (s .cost) a 0 → First a b false
+    number : (t : total learned (s .cost) a ≡ total learned (s .cost) b) → getD (s .cost) b 0 ≡ getD (s .cost) a 0 → SmallerFirst a b false
         → Earlier learned s a b
     number t q (less l) = lower-number t q l
     number t q (equal _ f) = absurd (false≢true f)
 
-    cost : total learned (s .cost) a ≡ total learned (s .cost) b → First (getD (s .cost) b 0) (getD (s .cost) a 0) (smallerFirst a b false)
+    cost : total learned (s .cost) a ≡ total learned (s .cost) b → SmallerFirst (getD (s .cost) b 0) (getD (s .cost) a 0) (smallerFirst a b false)
         → Earlier learned s a b
     cost t (less l) = larger-cost t l
     cost t (equal q n) = number t q (first-is _ _ _ n)
 
-    sum : First (total learned (s .cost) a) (total learned (s .cost) b)
+    sum : SmallerFirst (total learned (s .cost) a) (total learned (s .cost) b)
         (smallerFirst (getD (s .cost) b 0) (getD (s .cost) a 0) (smallerFirst a b false)) → Earlier learned s a b
     sum (less l) = smaller-sum l
     sum (equal q n) = cost q (first-is _ _ _ n)

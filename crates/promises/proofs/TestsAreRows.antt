@@ -142,19 +142,19 @@ too-short n l = less (length l) n
 -- Chains ------------------------------------------------------------------------------------------------------------------------------
 
 -- a verdict refuses for a reason exactly when these rows give it
-pub record Follows (v : Verdict) (rows : Reason → Type 0) : Type 0 where
+pub record RowsFollow (v : Verdict) (rows : Reason → Type 0) : Type 0 where
   pub given : (why : Reason) → v ≡ Refused why → rows why
   pub gives : (why : Reason) → rows why → v ≡ Refused why
 
-pub done : Follows Accepted Done
+pub done : RowsFollow Accepted Done
 done = record { given = λ why e. absurd (not-both e refl); gives = λ why. elim [ ] }
 
 same-reason : {why other : Reason} → _≡_ {A = Verdict} (Refused why) (Refused other) → why ≡ other
 same-reason e = cc
 
 -- a test and what comes after it, which may count on the test
-pub row-given : {b : Bool} {P : Type 0} {reason : Reason} {next : Verdict} {later : Reason → Type 0} → Tells b P → (b ≡ false → Follows next later)
-    → Follows (refuseIf b reason next) (Row P reason later)
+pub row-given : {b : Bool} {P : Type 0} {reason : Reason} {next : Verdict} {later : Reason → Type 0} → Tells b P → (b ≡ false → RowsFollow next later)
+    → RowsFollow (refuseIf b reason next) (Row P reason later)
 row-given {b = true} {P = P} {reason = reason} {next = next} {later = later} t f =
     record { given = λ why e. rw (← same-reason e) (first (t .yes refl)); gives = go }
   where
@@ -168,11 +168,11 @@ row-given {b = false} {P = P} {reason = reason} {next = next} {later = later} t 
     go why (first p) = absurd (t .no refl p)
     go why (after n l) = f refl .gives why l
 
-pub row : {b : Bool} {P : Type 0} {reason : Reason} {next : Verdict} {later : Reason → Type 0} → Tells b P → Follows next later
-    → Follows (refuseIf b reason next) (Row P reason later)
+pub row : {b : Bool} {P : Type 0} {reason : Reason} {next : Verdict} {later : Reason → Type 0} → Tells b P → RowsFollow next later
+    → RowsFollow (refuseIf b reason next) (Row P reason later)
 row t f = row-given t (λ _. f)
 
-pub same-verdict : {v u : Verdict} {rows : Reason → Type 0} → v ≡ u → Follows u rows → Follows v rows
+pub same-verdict : {v u : Verdict} {rows : Reason → Type 0} → v ≡ u → RowsFollow u rows → RowsFollow v rows
 same-verdict e f = rw e f
 
 -- a chain that another follows
@@ -182,9 +182,9 @@ refuse-then false reason v next = refl
 
 -- (a record, so that laws find the two verdicts by themselves)
 pub record Chain (v next : Verdict) (rows : Reason → Type 0) : Type 0 where
-  pub together : Follows (andThen v next) rows
+  pub together : RowsFollow (andThen v next) rows
 
-pub chain-end : {next : Verdict} {rows : Reason → Type 0} → Follows next rows → Chain Accepted next rows
+pub chain-end : {next : Verdict} {rows : Reason → Type 0} → RowsFollow next rows → Chain Accepted next rows
 chain-end f = record { together = f }
 
 pub row-then : {b : Bool} {P : Type 0} {reason : Reason} {v next : Verdict} {later : Reason → Type 0} → Tells b P → (b ≡ false → Chain v next later)

@@ -26,27 +26,27 @@ use Rattle.model.proofs.Calls.Acceptance.{held-accepts}
 use Rattle.model.proofs.Calls.ReportLaws.{report-rest}
 use Rattle.model.proofs.Record.RecordLaws.{load-held}
 use Rattle.promises.specs.Asking.{Ask, layout, report, plan, move, list, question, save, load, reportC, planC, moveC}
-use Rattle.promises.specs.Table.{Done, Sized, Checked, Listed, Loaded, Rows}
-use Rattle.promises.proofs.TestsAreRows.{bad-sides, any-short, any-outside, too-short, equal, failing, unfit, routeless, least, Follows, done}
+use Rattle.promises.specs.Table.{Done, Sized, Checked, ListRows, LoadRows, Rows}
+use Rattle.promises.proofs.TestsAreRows.{bad-sides, any-short, any-outside, too-short, equal, failing, unfit, routeless, least, RowsFollow, done}
 use Rattle.promises.proofs.TestsAreRows.{row, row-then, Chain, chain-end, same-verdict, then-then, then-accepted}
 
 -- The shared tests --------------------------------------------------------------------------------------------------------------------
 
-sized-then : (w h : ℕ) (buffers : List (List ℕ)) (names : List ℕ) {next : Verdict} {later : Reason → Type 0} → Follows next later
+sized-then : (w h : ℕ) (buffers : List (List ℕ)) (names : List ℕ) {next : Verdict} {later : Reason → Type 0} → RowsFollow next later
     → Chain (fits w h buffers names) next (Sized w h buffers names later)
 unfolding fits
 sized-then w h buffers names f =
     row-then (bad-sides w h) (λ _. row-then (any-short (cells w h) buffers) (λ _. row-then (any-outside (cells w h) names) (λ _. chain-end f)))
 
 module _ (head : Head) (p : Lent) (buffers : List (List ℕ)) (names : List ℕ) where
-  checked-then : {next : Verdict} {later : Reason → Type 0} → Follows next later
-      → Follows (andThen (check head p buffers names) next) (Checked head p buffers names later)
+  checked-then : {next : Verdict} {later : Reason → Type 0} → RowsFollow next later
+      → RowsFollow (andThen (check head p buffers names) next) (Checked head p buffers names later)
   unfolding check
   checked-then {next} f =
       same-verdict (then-then (fits (head .width) (head .height) buffers names) _ next)
       (sized-then (head .width) (head .height) buffers names (row-then (unfit head p) (λ _. chain-end f) .together) .together)
 
-  checked : Follows (check head p buffers names) (Checked head p buffers names Done)
+  checked : RowsFollow (check head p buffers names) (Checked head p buffers names Done)
   checked = same-verdict (sym (then-accepted (check head p buffers names))) (checked-then done)
 
 -- The calls ---------------------------------------------------------------------------------------------------------------------------
@@ -72,14 +72,14 @@ verdict (reportC bytes c) = recordCheck bytes (reportCheck (headOf bytes) (state
 verdict (planC bytes) = loadCheck bytes ownRoom
 verdict (moveC bytes) = recordCheck bytes (moveCheck (headOf bytes) (stateIn bytes))
 
-listed : (head : Head) (p : Lent) (buffer : List ℕ) → Follows (listCheck head p buffer) (Listed head p buffer)
+listed : (head : Head) (p : Lent) (buffer : List ℕ) → RowsFollow (listCheck head p buffer) (ListRows head p buffer)
 unfolding listCheck
 listed head p buffer =
     checked-then head p (buffersOf p) (cellsNamed head) (row (routeless head p) (row (too-short (length (route head p)) buffer) done))
 
 -- load, and what may count on it
-loaded-then : (bytes : List ℕ) (p : Lent) {next : Verdict} {later : Reason → Type 0} → (loadCheck bytes p ≡ Accepted → Follows next later)
-    → Follows (andThen (loadCheck bytes p) next) (Loaded bytes p later)
+loaded-then : (bytes : List ℕ) (p : Lent) {next : Verdict} {later : Reason → Type 0} → (loadCheck bytes p ≡ Accepted → RowsFollow next later)
+    → RowsFollow (andThen (loadCheck bytes p) next) (LoadRows bytes p later)
 unfolding loadCheck
 loaded-then bytes p f =
     let head = headOf bytes in
@@ -93,7 +93,7 @@ loaded-then bytes p f =
     chain-end (f (rw (loadCheck, a, b, c, d, e, g)))))))))) .together
 
 -- THE VERDICT of every call follows its rows.
-pub follows : (a : Ask) → Follows (verdict a) (Rows a)
+pub follows : (a : Ask) → RowsFollow (verdict a) (Rows a)
 unfolding verdict Rows layoutCheck reportCheck planCheck saveCheck
 follows (layout w h start goal p) = same-verdict (sym (then-accepted _)) (sized-then w h (buffersOf p) (goal ∷ start ∷ []) done .together)
 follows (report head p c) = checked-then head p (buffersOf p) (c ∷ cellsNamed head) (row (equal c (head .cell)) done)

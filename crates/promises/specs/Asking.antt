@@ -10,7 +10,7 @@ use Rattle.model.specs.Layout.{laidOut}
 use Rattle.model.specs.Report.{reported}
 use Rattle.model.specs.Plan.{AfterPlan, planned}
 use Rattle.model.specs.Move.{moved}
-use Rattle.model.specs.Listing.{AfterList, listed, listNumber}
+use Rattle.model.specs.Listing.{AfterList, listed, listQuestion}
 use Rattle.model.specs.Store.{AfterSave, saved, loaded}
 use Rattle.model.specs.Controller.{AfterC, reportedC, plannedC, movedC}
 use Rattle.model.specs.declared.Head.{Head}
@@ -52,7 +52,7 @@ result (report head p c) = reported head p c
 result (plan head p s) = planned head p s
 result (move head p) = moved head p
 result (list head p buffer) = listed head p buffer
-result (question head p buffer) = listNumber head p buffer
+result (question head p buffer) = listQuestion head p buffer
 result (save head p buffer) = saved head p buffer
 result (load bytes p) = loaded bytes p
 result (reportC bytes c) = reportedC bytes c
@@ -97,7 +97,7 @@ number (layout w h start goal p) r = verdictNumber (r .answer .verdict)
 number (report head p c) r = verdictNumber (r .answer .verdict)
 number (plan head p s) r = verdictNumber (outcomeVerdict (r .answer .outcome))
 number (move head p) r = verdictNumber (stepVerdict (r .answer .step))
-number (list head p buffer) r = listNumber head p buffer
+number (list head p buffer) r = listQuestion head p buffer
 number (question head p buffer) r = r
 number (save head p buffer) r = verdictNumber (lengthVerdict (r .answer .length))
 number (load bytes p) r = verdictNumber (r .answer .verdict)

@@ -75,14 +75,14 @@ abbrev pub Checked : Head → Lent → (buffers : List (List ℕ)) (named : List
 Checked head p buffers named later = Sized (head .width) (head .height) buffers named (Row (Unfit head p) Unsound later)
 
 -- "the list buffer's 2 comes after 6"
-abbrev pub Listed : Head → Lent → (buffer : List ℕ) → Reason → Type 0
-Listed head p buffer =
+abbrev pub ListRows : Head → Lent → (buffer : List ℕ) → Reason → Type 0
+ListRows head p buffer =
     Checked head p (buffersOf p) (cellsNamed head)
     (Row (Routeless head p) NoRoute (Row (ShorterThan (length (route head p)) buffer) Short Done))
 
 -- "Load: 8 for the first two fields, 1, 8 for the rest, 3, 2, 4"
-abbrev pub Loaded : (bytes : List ℕ) → Lent → (later : Reason → Type 0) → Reason → Type 0
-Loaded bytes p later =
+abbrev pub LoadRows : (bytes : List ℕ) → Lent → (later : Reason → Type 0) → Reason → Type 0
+LoadRows bytes p later =
     let head = headOf bytes in
     let n = cellsOf head in
     Row (sidesFormed bytes ≡ false) Form
@@ -97,13 +97,13 @@ Rows (layout w h start goal p) = Sized w h (buffersOf p) (goal ∷ start ∷ [])
 Rows (report head p c) = Checked head p (buffersOf p) (c ∷ cellsNamed head) (Row (c ≡ head .cell) OwnCell Done)
 Rows (plan head p s) = Checked head p (scratchBuffers s ++ buffersOf p) (cellsNamed head) Done
 Rows (move head p) = Checked head p (buffersOf p) (cellsNamed head) (Row (Routeless head p) NoRoute Done)
-Rows (list head p buffer) = Listed head p buffer
-Rows (question head p buffer) = Listed head p buffer
+Rows (list head p buffer) = ListRows head p buffer
+Rows (question head p buffer) = ListRows head p buffer
 -- "the save buffer's after 4"
 Rows (save head p buffer) = Checked head p (buffersOf p) (cellsNamed head) (Row (ShorterThan (recordLength (cellsOf head)) buffer) Short Done)
-Rows (load bytes p) = Loaded bytes p Done
+Rows (load bytes p) = LoadRows bytes p Done
 -- "The checks are load's in load's order, then the call's own"
 Rows (reportC bytes c) =
-    Loaded bytes ownRoom (Row (OffPlot (cellsOf (headOf bytes)) c) Outside (Row (c ≡ headOf bytes .cell) OwnCell Done))
-Rows (planC bytes) = Loaded bytes ownRoom Done
-Rows (moveC bytes) = Loaded bytes ownRoom (Row (Routeless (headOf bytes) (stateIn bytes)) NoRoute Done)
+    LoadRows bytes ownRoom (Row (OffPlot (cellsOf (headOf bytes)) c) Outside (Row (c ≡ headOf bytes .cell) OwnCell Done))
+Rows (planC bytes) = LoadRows bytes ownRoom Done
+Rows (moveC bytes) = LoadRows bytes ownRoom (Row (Routeless (headOf bytes) (stateIn bytes)) NoRoute Done)

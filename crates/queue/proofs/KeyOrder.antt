@@ -9,7 +9,7 @@ use native.Mathlib.Omega.{arith}
 use lib.ListN.{getD}
 use Rattle.model.specs.Lent.{Scratch}
 use Rattle.model.specs.Search.{total, smallerFirst, earlier}
-use Rattle.model.proofs.Search.Order.{First, less, equal, first-is, earlier-total}
+use Rattle.model.proofs.Search.Order.{SmallerFirst, less, equal, first-is, earlier-total}
 use Rattle.queue.specs.Queue.{keyOf}
 
 -- the key names its cell
@@ -27,17 +27,17 @@ module _ (learned : List ℕ) (s : Scratch) where
   unfolding earlier
   earlier-key a b ca cb la lb e = by-total (first-is _ _ _ e)
     where
-      by-number : First a b false → getD (s .cost) a 0 ≡ getD (s .cost) b 0 → total learned (s .cost) a ≡ total learned (s .cost) b
+      by-number : SmallerFirst a b false → getD (s .cost) a 0 ≡ getD (s .cost) b 0 → total learned (s .cost) a ≡ total learned (s .cost) b
           → keyAt a < keyAt b
       by-number (less l) q t = omega arith
       by-number (equal l f) q t = let z : _≡_ {A = ℕ} 0 1 = cc in absurd (omega arith)
 
-      by-cost : {next : Bool} → (next ≡ true → First a b false) → First (getD (s .cost) b 0) (getD (s .cost) a 0) next
+      by-cost : {next : Bool} → (next ≡ true → SmallerFirst a b false) → SmallerFirst (getD (s .cost) b 0) (getD (s .cost) a 0) next
           → total learned (s .cost) a ≡ total learned (s .cost) b → keyAt a < keyAt b
       by-cost on (less l) t = omega arith
       by-cost on (equal l f) t = by-number (on f) (omega arith) t
 
-      by-total : First (total learned (s .cost) a) (total learned (s .cost) b)
+      by-total : SmallerFirst (total learned (s .cost) a) (total learned (s .cost) b)
           (smallerFirst (getD (s .cost) b 0) (getD (s .cost) a 0) (smallerFirst a b false)) → keyAt a < keyAt b
       by-total (less l) = omega arith
       by-total (equal l f) = by-cost (first-is a b false) (first-is _ _ _ f) l

@@ -10,7 +10,7 @@ use Rattle.model.specs.Numbers.{verdictNumber, planAnswer, moveAnswer, saveAnsw
 use Rattle.model.specs.Lent.{Lent, Scratch, After, after}
 use Rattle.model.specs.Plan.{AfterPlan, afterPlan, planned}
 use Rattle.model.specs.Move.{moved}
-use Rattle.model.specs.Listing.{listCheck, listNumber}
+use Rattle.model.specs.Listing.{listCheck, listQuestion}
 use Rattle.model.specs.Store.{AfterSave, afterSave, saved}
 use Rattle.model.specs.declared.Head.{Head}
 use Rattle.model.specs.declared.Verdict.{Verdict}
@@ -25,7 +25,7 @@ use Rattle.model.proofs.Calls.PlanAnswers.{Says, plan-is-true}
 use Rattle.model.proofs.Calls.PlanKeeps.{plan-keeps, route-stands-after}
 use Rattle.model.proofs.Calls.MoveLaws.{Moving, move-refused, move-there, move-lost, move-went, move-is, moved-held}
 use Rattle.model.proofs.Record.SaveAndLoad.{Saving, save-refused, save-wrote, save-is}
-use Rattle.calls.specs.RouteWritten.{Filled}
+use Rattle.calls.specs.RouteWritten.{RouteFilled}
 use Rattle.calls.proofs.list.ListCases.{route-long, list-accepts}
 use Rattle.model.proofs.Calls.ReasonNumbers.{number-small}
 
@@ -63,8 +63,8 @@ save-fits head p bytes d = rw (ap (λ (a : AfterSave). a .answer .length) d) (go
     go (save-refused {why = why} e) = omega (arith, number-small why)
     go (save-wrote a w) = omega (arith, a .placed .few)
 
-pub question-fits : (head : Head) (p : Lent) (buffer : List ℕ) {n : ℕ} → n ≡ listNumber head p buffer → n < 9
-unfolding listNumber
+pub question-fits : (head : Head) (p : Lent) (buffer : List ℕ) {n : ℕ} → n ≡ listQuestion head p buffer → n < 9
+unfolding listQuestion
 question-fits head p buffer e = rw e (go (listCheck head p buffer))
   where
     go : (v : Verdict) → verdictNumber v < 9
@@ -77,5 +77,5 @@ list-few head p buffer ok =
     let a = accepts-held head p (list-accepts head p buffer ok) in
     omega (arith, a .fit .learned (head .cell) (a .placed .cart-on), a .placed .few)
 
-pub list-fits : {head : Head} {p : Lent} {buffer l : List ℕ} {k : ℕ} → listCheck head p buffer ≡ Accepted → Filled head p buffer k l → k < 4294967296
+pub list-fits : {head : Head} {p : Lent} {buffer l : List ℕ} {k : ℕ} → listCheck head p buffer ≡ Accepted → RouteFilled head p buffer k l → k < 4294967296
 list-fits {head} {p} {buffer} ok f = omega (arith, f .count, route-long head p, list-few head p buffer ok)

@@ -2,7 +2,7 @@
 use Prim.Native.Nat.{ℕ}
 use mathlib.Core.Bool.{cond}
 use mathlib.Core.List.{List}
-use lib.ListN.{length, set}
+use lib.ListN.{length}
 use Rattle.model.specs.Numbers.{reasonNumber, outcomeVerdict, stepVerdict, refusal, changedAnswer, planAnswer, moveAnswer, saveAnswer}
 use Rattle.model.specs.Lent.{Lent, Scratch, After}
 use Rattle.model.specs.Refusals.{tooShort}
@@ -10,25 +10,24 @@ use Rattle.model.specs.Layout.{laidOut}
 use Rattle.model.specs.Report.{reported}
 use Rattle.model.specs.Plan.{planned}
 use Rattle.model.specs.Move.{moved}
-use Rattle.model.specs.Listing.{listCheck, listed, listNumber}
+use Rattle.model.specs.Listing.{listCheck, listed, listQuestion}
 use Rattle.model.specs.Store.{saved, loaded}
-use Rattle.model.specs.Controller.{rewritten}
 use Rattle.model.specs.declared.Reason.the-variants.{Short}
 use Rattle.model.specs.declared.Verdict.{Verdict}
 use Rattle.model.specs.declared.Verdict.the-variants.{Accepted, Refused}
 use Rattle.model.specs.declared.Changed.{Changed}
 use Rattle.model.specs.declared.Planned.{Planned}
 use Rattle.model.specs.declared.Moved.{Moved}
-use Rattle.salenduro.specs.Heads.{headSize, headIn, headAfter}
+use Rattle.salenduro.specs.Heads.{headSize, headIn, headSet, entrySet}
 
 -- The head array afterwards ---------------------------------------------------------------------------------------------------------
 
 -- Once accepted, plan sets the count and move the cart's cell; a refusal leaves the array
 abbrev pub countAfter : Planned → List ℕ → List ℕ
-countAfter r l = rewritten (outcomeVerdict (r .outcome)) l (set l 4 (r .expanded))
+countAfter r l = entrySet (outcomeVerdict (r .outcome)) 4 (r .expanded) l
 
 abbrev pub cellAfter : Moved → List ℕ → List ℕ
-cellAfter r l = rewritten (stepVerdict (r .step)) l (set l 3 (r .head .cell))
+cellAfter r l = entrySet (stepVerdict (r .step)) 3 (r .head .cell) l
 
 -- a head array of fewer than five entries is refused first of all
 abbrev pub unlessShort : {A : Type 0} → (head : List ℕ) → (refused called : A) → A
@@ -64,7 +63,7 @@ afterHostFill answer buffer = record { answer = answer; buffer = buffer }
 
 -- layout and load, which are given no head, set it
 abbrev pub headed : (head : List ℕ) → After Changed → AfterHost
-headed head r = afterHost (changedAnswer (r .answer .verdict)) (headAfter (r .answer) head) (r .lists)
+headed head r = afterHost (changedAnswer (r .answer .verdict)) (headSet (r .answer) head) (r .lists)
 
 unfoldable pub laidOutHost : (w h start goal : ℕ) (head : List ℕ) → Lent → AfterHost
 laidOutHost w h start goal head p = unlessShort head (afterHost (refusal Short) head p) (headed head (laidOut w h start goal p))
@@ -103,7 +102,7 @@ listedHost head p buffer =
 
 -- the question's numbers are the table's own
 unfoldable pub questionHost : (head : List ℕ) → Lent → (buffer : List ℕ) → ℕ
-questionHost head p buffer = unlessShort head (reasonNumber Short) (listNumber (headIn head) p buffer)
+questionHost head p buffer = unlessShort head (reasonNumber Short) (listQuestion (headIn head) p buffer)
 
 unfoldable pub savedHost : (head : List ℕ) → Lent → (bytes : List ℕ) → AfterHostFill
 savedHost head p bytes =

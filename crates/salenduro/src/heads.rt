@@ -4,9 +4,8 @@ use model::Head;
 use model::Verdict;
 ghost use mathlib.Core.Path.{_≡_};
 ghost use Prim.Native.Nat.{_≤_, _<_};
-ghost use lib.ListN.{length, set};
-ghost use Rattle.model.specs.Controller.{rewritten};
-ghost use Rattle.salenduro.specs.Heads.{headSize, headIn, headAfter};
+ghost use lib.ListN.{length};
+ghost use Rattle.salenduro.specs.Heads.{headSize, headIn, headSet, entrySet};
 
 // Its entries, and the places of those that are set alone.
 pub const HEAD_SIZE: usize = 5;
@@ -25,7 +24,7 @@ pub fn head_in(head: &[usize]) -> Head
 // Layout and load, once accepted, set every entry.
 pub fn set_head(head: &mut [usize], changed: Changed)
     requires { ⌜ headSize ≤ length (now head) ⌝ }
-    ensures { λ _. ⌜ now (head .exit) ≡ headAfter changed (now (head .entry)) ⌝ }
+    ensures { λ _. ⌜ now (head .exit) ≡ headSet changed (now (head .entry)) ⌝ }
 {
     let done = changed.verdict;
     if let Verdict::Refused(_) = done {
@@ -42,7 +41,7 @@ pub fn set_head(head: &mut [usize], changed: Changed)
 // Plan and move, once accepted, set one.
 pub fn set_entry(head: &mut [usize], at: usize, verdict: Verdict, v: usize)
     requires { ⌜ at < length (now head) ⌝ }
-    ensures { λ _. ⌜ now (head .exit) ≡ rewritten verdict (now (head .entry)) (set (now (head .entry)) at v) ⌝ }
+    ensures { λ _. ⌜ now (head .exit) ≡ entrySet verdict at v (now (head .entry)) ⌝ }
 {
     if let Verdict::Refused(_) = verdict {
         return;

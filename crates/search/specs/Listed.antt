@@ -5,7 +5,7 @@ use mathlib.Core.List.{List}
 use lib.ListN.{getD}
 
 -- where x stands among the first `count` entries
-pub record Entry (count : ℕ) (list : List ℕ) (x : ℕ) : Type 0 where
+pub record ListEntry (count : ℕ) (list : List ℕ) (x : ℕ) : Type 0 where
   pub index : ℕ
   pub low : index < count
   pub named : getD list index 0 ≡ x
@@ -14,4 +14,4 @@ pub record Entry (count : ℕ) (list : List ℕ) (x : ℕ) : Type 0 where
 pub record Listed (n : ℕ) (mark : List ℕ) (count : ℕ) (list : List ℕ) : Type 0 where
   pub inside : (i : ℕ) → i < count → getD list i 0 < n
   pub marked : (i : ℕ) → i < count → getD mark (getD list i 0) 0 ≡ 2
-  pub each-one : (x : ℕ) → x < n → getD mark x 0 ≡ 2 → Entry count list x
+  pub each-one : (x : ℕ) → x < n → getD mark x 0 ≡ 2 → ListEntry count list x

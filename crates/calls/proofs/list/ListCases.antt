@@ -21,7 +21,7 @@ use Rattle.model.proofs.Calls.Acceptance.{passed, both-passed, accepts-held}
 use Rattle.model.proofs.Grid.RouteLaws.{RouteOn, leads-stands}
 use Rattle.model.proofs.Lists.Fronted.{fronted-front}
 use Rattle.model.proofs.Calls.ListLaws.{cells-long}
-use Rattle.calls.specs.RouteWritten.{Onward, ends, goes, Writable, Filled}
+use Rattle.calls.specs.RouteWritten.{Onward, ends, goes, Writable, RouteFilled}
 
 -- the links of a route that stands stay on the plot
 route-onward : {w h goal : ℕ} (p : Lent) {c v : ℕ} → goal < cells w h → RouteOn w h goal p c v → Onward w h (p .link) v c
@@ -75,11 +75,11 @@ module _ (head : Head) (p : Lent) where
   -- k cells were written
   pub list-filled : (buffer l : List ℕ) (k : ℕ) → listCheck head p buffer ≡ Accepted → k ≡ getD (p .learned) (head .cell) 0 + 1
       → l ≡ fronted (cellsFrom (head .width) (head .height) (p .link) (getD (p .learned) (head .cell) 0) (head .cell)) buffer
-      → Filled head p buffer k l
+      → RouteFilled head p buffer k l
   unfolding route
   list-filled buffer l k ok e is = record { count = e ∙ route-long; is = is }
 
 -- the front that was written, read back
-module _ {head : Head} {p : Lent} {buffer l : List ℕ} {k : ℕ} (f : Filled head p buffer k l) where
+module _ {head : Head} {p : Lent} {buffer l : List ℕ} {k : ℕ} (f : RouteFilled head p buffer k l) where
   pub filled-back : take k l ≡ route head p
   filled-back = rw (f .count, f .is) (fronted-front (route head p) buffer)

@@ -7,12 +7,12 @@ use lib.ListN.{length, take}
 use Rattle.model.specs.Lent.{Lent}
 use Rattle.model.specs.Refusals.{acceptance}
 use Rattle.model.specs.Numbers.{reasonNumber}
-use Rattle.model.specs.Listing.{AfterList, listCheck, listed, listNumber}
+use Rattle.model.specs.Listing.{AfterList, listCheck, listed, listQuestion}
 use Rattle.model.specs.declared.Head.{Head}
 use Rattle.model.specs.declared.Reason.{Reason}
 use Rattle.model.specs.declared.Verdict.{Verdict}
 use Rattle.model.specs.declared.Verdict.the-variants.{Accepted, Refused}
-use Rattle.calls.specs.RouteWritten.{Filled}
+use Rattle.calls.specs.RouteWritten.{RouteFilled}
 use Rattle.calls.proofs.list.ListCases.{filled-back}
 use Rattle.calls.specs.Counted.{Counted}
 
@@ -22,20 +22,20 @@ module _ (head : Head) (p : Lent) (buffer : List ℕ) where
   unfolding listCheck
   list-refused e q = rw (sym e ∙ q)
 
-  pub number-none : {v : Verdict} → v ≡ listCheck head p buffer → v ≡ Accepted → 0 ≡ listNumber head p buffer
-  unfolding listNumber
+  pub number-none : {v : Verdict} → v ≡ listCheck head p buffer → v ≡ Accepted → 0 ≡ listQuestion head p buffer
+  unfolding listQuestion
   number-none e q = rw (sym e ∙ q)
 
   pub number-why : {v : Verdict} {why : Reason} (n : ℕ) → v ≡ listCheck head p buffer → v ≡ Refused why → n ≡ reasonNumber why
-      → n ≡ listNumber head p buffer
-  unfolding listNumber
+      → n ≡ listQuestion head p buffer
+  unfolding listQuestion
   number-why n e q is = rw (sym e ∙ q) is
 
   pub count-none : {v : Verdict} {why : Reason} → v ≡ listCheck head p buffer → v ≡ Refused why → Counted head p buffer 0 buffer
   unfolding listed
   count-none e q = record { count = rw (sym e ∙ q, listed); leaves = rw (sym e ∙ q, listed) }
 
-  pub count-filled : {k : ℕ} {l : List ℕ} → listCheck head p buffer ≡ Accepted → Filled head p buffer k l → Counted head p buffer k l
+  pub count-filled : {k : ℕ} {l : List ℕ} → listCheck head p buffer ≡ Accepted → RouteFilled head p buffer k l → Counted head p buffer k l
   unfolding listed
   count-filled {k} {l} ok f = record {
     count = rw (ok, listed) (f .count);

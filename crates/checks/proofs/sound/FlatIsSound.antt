@@ -20,9 +20,9 @@ use Rattle.model.proofs.Grid.Geometry.{Stepped, right, down, left, up, ahead-is
 use Rattle.model.proofs.Grid.Geometry.{allowed-on, allowed-free, allow}
 use Rattle.model.specs.Fit.{Fit}
 use Rattle.model.proofs.Calls.Soundness.{sound-fit, fit-sound}
-use Rattle.checks.specs.Flat.{flat, Clear, Marked}
+use Rattle.checks.specs.Flat.{flat, Clear, EndsMarked}
 use Rattle.model.proofs.Lists.Scans.{same-test}
-use Rattle.checks.proofs.sound.RowEnds.{Sides, unmarked, goes-on}
+use Rattle.checks.proofs.sound.RowEnds.{SidesFit, unmarked, goes-on}
 use Rattle.checks.proofs.sound.FlatTests.{Own, PairAt, Facts, flat-read, flat-write}
 
 -- Steps -----------------------------------------------------------------------------------------------------------------------
@@ -85,7 +85,7 @@ module _ {w h : ℕ} {g : List ℕ} {c d : ℕ} where
     there = eqb-true _ _ (allowed-free w h g c d a);
   }
 
-module _ (w h goal cell : ℕ) (g l k e zs : List ℕ) (s : Sides w h) (m : Marked w h e) (clear : Clear zs) where
+module _ (w h goal cell : ℕ) (g l k e zs : List ℕ) (s : SidesFit w h) (m : EndsMarked w h e) (clear : Clear zs) where
   -- From the flat tests ---------------------------------------------------------------------------------------------------------
 
   module _ (f : Facts w (cells w h) goal cell g l k e zs) where
@@ -235,7 +235,7 @@ module _ (w h goal cell : ℕ) (g l k e zs : List ℕ) (s : Sides w h) (m : Mark
         go (no q) = absurd (t .links goal inside q .away refl)
 
 -- THE FLAT TESTS ARE `sound`.
-pub flat-sound : (head : Head) (g l k e zs : List ℕ) → Sides (head .width) (head .height) → Marked (head .width) (head .height) e → Clear zs
+pub flat-sound : (head : Head) (g l k e zs : List ℕ) → SidesFit (head .width) (head .height) → EndsMarked (head .width) (head .height) e → Clear zs
     → head .goal < cellsOf head → flat (head .width) (cellsOf head) (head .goal) (head .cell) g l k e zs ≡ sound head (lentWith g l k)
 flat-sound head g l k e zs s m clear inside =
     let w = head .width in

@@ -9,10 +9,10 @@ use Rattle.model.specs.Plot.{maxCells}
 use Rattle.model.specs.Head.{cellsOf}
 use Rattle.model.specs.declared.Head.{Head}
 use Rattle.checks.specs.Given.{Given}
-use Rattle.checks.specs.Flat.{InRows, Paired, Marked}
-use Rattle.checks.proofs.sound.RowEnds.{Sides, first-end}
+use Rattle.checks.specs.Flat.{InRows, Paired, EndsMarked}
+use Rattle.checks.proofs.sound.RowEnds.{SidesFit, first-end}
 
-module _ {head : Head} {ground learned link : List ℕ} (a : Given head ground learned link) (s : Sides (head .width) (head .height)) where
+module _ {head : Head} {ground learned link : List ℕ} (a : Given head ground learned link) (s : SidesFit (head .width) (head .height)) where
   pub spread : InRows (head .width) (cellsOf head) (head .goal) (head .cell) ground learned link
   spread = record {
     wide = s .wide;
@@ -34,7 +34,7 @@ module _ {head : Head} {ground learned link : List ℕ} (a : Given head ground l
   pub spread-below : (k : ℕ) → maxCells ≤ k → Paired (head .width) (cellsOf head - head .width) ground learned link (replicate k 0)
   spread-below k room = paired (head .width) (replicate k 0) (s .row) (omega (arith, s .few, length-replicate {A = ℕ} k 0))
 
-  pub spread-right : (end : List ℕ) → length end ≡ maxCells → Marked (head .width) (head .height) end
+  pub spread-right : (end : List ℕ) → length end ≡ maxCells → EndsMarked (head .width) (head .height) end
       → (0 < head .width) × (head .width ≤ cellsOf head) × (cellsOf head ≤ length end) × (getD end (head .width - 1) 0 ≡ 1)
       × Paired 1 (cellsOf head - 1) ground learned link end
   spread-right end long m =

@@ -15,7 +15,7 @@ use lib.Seq.{getD-set-same, getD-set-other}
 use Rattle.model.specs.Plot.{maxCells, badSides, cells, column}
 use Rattle.model.proofs.Lists.Filled.{zeros-at}
 use Rattle.model.proofs.Calls.Acceptance.{side-wide, side-high, cells-few, row-within}
-use Rattle.checks.specs.Flat.{Clear, Marked}
+use Rattle.checks.specs.Flat.{Clear, EndsMarked}
 
 -- row r of h rows of w cells lies within them, and the next begins where it ends
 pub row-in : (r h w : ℕ) → r < h → r * w + w ≤ h * w
@@ -25,14 +25,14 @@ pub row-next : (r w : ℕ) → (r + 1) * w ≡ r * w + w
 row-next r w = rw (add-one, suc-mul)
 
 -- good sides
-pub record Sides (w h : ℕ) : Type 0 where
+pub record SidesFit (w h : ℕ) : Type 0 where
   pub wide : 0 < w
   pub high : 0 < h
   pub few : cells w h ≤ maxCells
   pub swapped : h * w ≡ cells w h
   pub row : w ≤ cells w h
 
-pub good-sides : (w h : ℕ) → badSides w h ≡ false → Sides w h
+pub good-sides : (w h : ℕ) → badSides w h ≡ false → SidesFit w h
 good-sides w h e = record {
   wide = side-wide w h e;
   high = side-high w h e;
@@ -42,7 +42,7 @@ good-sides w h e = record {
 }
 
 -- the first row's end is marked
-pub first-end : (w h : ℕ) (end : List ℕ) → 0 < w → 0 < h → Marked w h end → getD end (w - 1) 0 ≡ 1
+pub first-end : (w h : ℕ) (end : List ℕ) → 0 < w → 0 < h → EndsMarked w h end → getD end (w - 1) 0 ≡ 1
 first-end w h end wide high m = let e : 0 * w + (w - 1) ≡ w - 1 = omega arith in rw e at (m .last 0 (w - 1) high (omega arith))
 
 -- The marks are written -------------------------------------------------------------------------------------------------------
@@ -59,11 +59,11 @@ rows-apart r s w c d l e q = go (ℕ-discrete r s)
         side true t = omega (arith, row-in r s w (omega (arith, leb-true r s t)))
         side false t = omega (arith, row-in s r w (leb-false r s t))
 
-pub mark-start : (w : ℕ) (end : List ℕ) → Clear end → Marked w 0 end
+pub mark-start : (w : ℕ) (end : List ℕ) → Clear end → EndsMarked w 0 end
 mark-start w end z = record { inside = λ r c l. z .zero (r * w + c); last = λ r c l e. absurd (not-suc-le-zero l) }
 
-pub mark-next : (w row at : ℕ) (end : List ℕ) → 0 < w → at ≡ row * w + (w - 1) → at < length end → Marked w row end
-    → Marked w (row + 1) (set end at 1)
+pub mark-next : (w row at : ℕ) (end : List ℕ) → 0 < w → at ≡ row * w + (w - 1) → at < length end → EndsMarked w row end
+    → EndsMarked w (row + 1) (set end at 1)
 mark-next w row at end p q long m = record {
   inside = λ r c l. getD-set-other end at (r * w + c) 1 0 (λ e. rows-apart r row w c (w - 1) l (omega arith) (e ∙ q)) ∙ m .inside r c l;
   last = λ r c l e. go r c e (ℕ-discrete r row) (omega arith);
@@ -76,7 +76,7 @@ mark-next w row at end p q long m = record {
     go r c e (no f) l =
         getD-set-other end at (r * w + c) 1 0 (λ x. omega (arith, row-in r row w (omega arith))) ∙ m .last r c (omega arith) e
 
-pub mark-end : (w row h : ℕ) (end : List ℕ) → row ≤ h → h ≤ row → Marked w row end → Marked w h end
+pub mark-end : (w row h : ℕ) (end : List ℕ) → row ≤ h → h ≤ row → EndsMarked w row end → EndsMarked w h end
 mark-end w row h end l m d = let e : row ≡ h = omega arith in rw e at d
 
 -- a list of zeros
@@ -93,7 +93,7 @@ row-of w h c l = side (ltb (c / w) h) refl
     side true t = ltb-true (c / w) h t
     side false t = absurd (omega (arith, mul-le-mul-right w (ltb-false (c / w) h t), div-add-mod' c w, mul-comm h w))
 
-module _ (w h : ℕ) (end : List ℕ) (p : 0 < w) (m : Marked w h end) where
+module _ (w h : ℕ) (end : List ℕ) (p : 0 < w) (m : EndsMarked w h end) where
   pub unmarked : (c : ℕ) → column w c + 1 < w → getD end c 0 ≡ 0
   unmarked c l = rw (div-add-mod' c w) at (m .inside (c / w) (column w c) l)
 

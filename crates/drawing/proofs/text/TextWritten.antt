@@ -8,7 +8,7 @@ use mathlib.Core.List.{List, [], _∷_, _++_}
 use native.Mathlib.Numerals.{add-one}
 use native.Mathlib.Nat.{mul-one, mul-comm, mul-le-mul, suc-mul, le-refl}
 use native.Mathlib.Omega.{arith}
-use borrow.Author.Tests.{eq-eqb, ne-eqb, ltb-true, ltb-false, le-leb, lt-leb}
+use borrow.Author.Tests.{eq-eqb, ne-eqb, ltb-false}
 use lib.Dec.{leb, ltb, eqb}
 use lib.ListN.{length, getD, take, drop, length-append, drop-of-length-le}
 use lib.Seq.{drop-cons, getD-take, length-take-le}
@@ -17,7 +17,7 @@ use Rattle.model.specs.Plot.{maxSide, badSide, badSides}
 use Rattle.model.specs.Head.{cellsOf}
 use Rattle.model.specs.declared.Head.{Head}
 use Rattle.model.specs.Record.{same}
-use Rattle.model.proofs.Lists.Bools.{or-false}
+use Rattle.model.proofs.Lists.Bools.{or-false, not-leb}
 use Rattle.model.proofs.Lists.Gathered.{length-gathered}
 use Rattle.model.proofs.Record.RecordLaws.{same-true}
 use Rattle.printing.specs.Text.{lineFeed, number, Put}
@@ -187,13 +187,6 @@ module _ (head : Head) where
   unfolding onPlot
   on-sides e = rw (onPlot, e) (both (cellsOf head) (head .goal) (head .cell))
     where
-      not-leb : (n c : ℕ) → not (leb n c) ≡ ltb c n
-      not-leb n c = go (ltb c n) refl
-        where
-          go : (b : Bool) → ltb c n ≡ b → not (leb n c) ≡ b
-          go true e = rw (lt-leb n c (ltb-true c n e)) refl
-          go false e = rw (le-leb n c (ltb-false c n e)) refl
-
       both : (n g c : ℕ) → (ltb g n && ltb c n) ≡ not (leb n g || (leb n c || false))
       both n g c = rw (← not-leb n g, ← not-leb n c) (go (leb n g) (leb n c))
         where

@@ -135,20 +135,20 @@ loop-again c =
     let rooms = at-loop (search past) .loop .inv .0 in
     let lists = at-loop (search past) .loop .inv .1 in (
       record {
-        heaps = kept .1 .1 .1 .1 .1 .1 .1 .1 .1 .0 ∙ rooms .heaps;
-        places = kept .1 .1 .1 .1 .1 .1 .1 .1 .1 .1 .0 ∙ rooms .places;
-        gones = kept .1 .1 .1 .1 .1 .1 .1 .1 .1 .1 .1 .0 ∙ rooms .gones;
-        lists = kept .1 .1 .1 .1 .1 .1 .1 .1 .1 .1 .1 .1 .0 ∙ rooms .lists;
+        heaps = omega (arith, kept, rooms .heaps);
+        places = omega (arith, kept, rooms .places);
+        gones = omega (arith, kept, rooms .gones);
+        lists = omega (arith, kept, rooms .lists);
         outs = after-put-line (search past) .put-line .kept .0 ∙ rooms .outs;
         waits = c .before .before .flush .ensures;
       },
       record {
-        grounds = kept .1 .1 .1 .0 ∙ lists .grounds;
-        learneds = kept .1 .1 .1 .1 .0 ∙ lists .learneds;
-        links = kept .1 .1 .1 .1 .1 .0 ∙ lists .links;
-        marks = kept .1 .1 .1 .1 .1 .1 .0 ∙ lists .marks;
-        costs = kept .1 .1 .1 .1 .1 .1 .1 .0 ∙ lists .costs;
-        trails = kept .1 .1 .1 .1 .1 .1 .1 .1 .0 ∙ lists .trails;
+        grounds = omega (arith, kept, lists .grounds);
+        learneds = omega (arith, kept, lists .learneds);
+        links = omega (arith, kept, lists .links);
+        marks = omega (arith, kept, lists .marks);
+        costs = omega (arith, kept, lists .costs);
+        trails = omega (arith, kept, lists .trails);
       },
       going-again _ _
           (at-loop (search past) .loop .inv .2 (in-loop (search past) .loop-test .taken)) _ _ _

@@ -19,7 +19,7 @@ use Rattle.model.specs.Store.{loaded}
 use Rattle.model.specs.declared.Head.{Head}
 use Rattle.model.specs.declared.Changed.{Changed}
 use Rattle.model.specs.declared.Moved.{Moved}
-use Rattle.model.proofs.Calls.LayoutLaws.{Laying, layout-refused, layout-laid, layout-is}
+use Rattle.model.proofs.Calls.LayoutLaws.{LayingOut, layout-refused, layout-laid, layout-is}
 use Rattle.model.proofs.Calls.ReportLaws.{Reporting, report-refused, report-taken, report-is}
 use Rattle.model.proofs.Calls.ReportsCommute.{blocked-by}
 use Rattle.model.proofs.Record.SaveAndLoad.{Loading, load-refused, load-read, load-is}
@@ -71,7 +71,7 @@ scratch-trans a b = record {
 -- Layout, report, move, load ------------------------------------------------------------------------------------------------------
 
 module _ (w h start goal : ℕ) (p : Lent) where
-  laid : {r : After Changed} → Laying w h start goal p r → LentBeyond (cells w h) p (r .lists)
+  laid : {r : After Changed} → LayingOut w h start goal p r → LentBeyond (cells w h) p (r .lists)
   unfolding fresh
   laid (layout-refused e) = lent-same (cells w h) p
   laid (layout-laid r m) = record {

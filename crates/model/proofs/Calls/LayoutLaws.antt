@@ -27,11 +27,11 @@ use Rattle.model.proofs.Grid.Manhattan.{step-near, distance-below, dist
 
 module _ (w h start goal : ℕ) (p : Lent) where
   -- what layout answers and leaves, in its two cases
-  pub data Laying : After Changed → Type 0 where
+  pub data LayingOut : After Changed → Type 0 where
     layout-refused : {why : Reason} → layoutCheck w h start goal p ≡ Refused why
-        → Laying (record { answer = changed noHead (Refused why); lists = p })
+        → LayingOut (record { answer = changed noHead (Refused why); lists = p })
     layout-laid : Placed w h goal start → Room (cells w h) p
-        → Laying (record { answer = changed (headAt w h goal start) Accepted; lists = fresh w h goal p })
+        → LayingOut (record { answer = changed (headAt w h goal start) Accepted; lists = fresh w h goal p })
 
   pub layout-passed : layoutCheck w h start goal p ≡ Accepted → Placed w h goal start × Room (cells w h) p
   unfolding layoutCheck
@@ -40,11 +40,11 @@ module _ (w h start goal : ℕ) (p : Lent) where
       let on = both-on w h goal start (f .2) in
       (place w h goal start (f .0) (on .0) (on .1), room-lent (cells w h) p (f .1))
 
-  pub layout-is : Laying (laidOut w h start goal p)
+  pub layout-is : LayingOut (laidOut w h start goal p)
   unfolding laidOut
   layout-is = go _ refl
     where
-      go : (v : Verdict) → layoutCheck w h start goal p ≡ v → Laying (elim v [
+      go : (v : Verdict) → layoutCheck w h start goal p ≡ v → LayingOut (elim v [
         | Accepted ↦ record { answer = changed (headAt w h goal start) Accepted; lists = fresh w h goal p }
         | Refused why ↦ record { answer = changed noHead (Refused why); lists = p }
       ])
@@ -85,7 +85,7 @@ module _ (w h start goal : ℕ) (p : Lent) where
       };
     }
 
-  laid-held : {r : After Changed} → Laying r → r .answer .verdict ≡ Accepted → Held (r .answer .head) (r .lists)
+  laid-held : {r : After Changed} → LayingOut r → r .answer .verdict ≡ Accepted → Held (r .answer .head) (r .lists)
   laid-held (layout-refused e) q = absurd (not-both refl q)
   laid-held (layout-laid r m) q = fresh-held r m
 

@@ -13,7 +13,7 @@ use Rattle.model.specs.Lent.{Lent, fronted}
 use Rattle.model.specs.Route.{next, stands, cellsFrom, route}
 use Rattle.model.specs.Refusals.{refuseIf, tooShort, acceptance}
 use Rattle.model.specs.Numbers.{verdictNumber}
-use Rattle.model.specs.Listing.{AfterList, listCheck, listed, listNumber}
+use Rattle.model.specs.Listing.{AfterList, listCheck, listed, listQuestion}
 use Rattle.model.specs.declared.Head.{Head}
 use Rattle.model.specs.declared.Reason.{Reason}
 use Rattle.model.specs.declared.Reason.the-variants.{Short, NoRoute}
@@ -81,7 +81,7 @@ module _ (head : Head) (p : Lent) (buffer : List ℕ) where
       go (Refused why) e = list-refused e
 
   -- what is written where the check accepts
-  pub record Listed (r : AfterList) : Type 0 where
+  pub record ListAccepted (r : AfterList) : Type 0 where
     -- one cell more than steps: never empty
     pub long : length (r .front) ≡ getD (p .learned) (head .cell) 0 + 1
     pub from-cart : getD (r .front) 0 0 ≡ head .cell
@@ -96,7 +96,7 @@ module _ (head : Head) (p : Lent) (buffer : List ℕ) where
     pub same-length : length (r .buffer) ≡ length buffer
 
   written : Held head p → stands head p ≡ true → length (route head p) ≤ length buffer
-      → Listed (record { front = route head p; buffer = fronted (route head p) buffer })
+      → ListAccepted (record { front = route head p; buffer = fronted (route head p) buffer })
   unfolding route
   written a t fits = record {
     long = cells-long (head .width) (head .height) (p .link) (getD (p .learned) (head .cell) 0) (head .cell);
@@ -108,12 +108,12 @@ module _ (head : Head) (p : Lent) (buffer : List ℕ) where
     same-length = fronted-long (route head p) buffer fits;
   }
 
-  writes : {r : AfterList} → ListingOf r → listCheck head p buffer ≡ Accepted → Listed r
+  writes : {r : AfterList} → ListingOf r → listCheck head p buffer ≡ Accepted → ListAccepted r
   writes (list-refused e) ok = absurd (not-both e ok)
   writes (list-written ok a t fits) _ = written a t fits
 
   -- WHERE A ROUTE STANDS and the buffer has room, its cells are written.
-  pub list-writes : listCheck head p buffer ≡ Accepted → Listed (listed head p buffer)
+  pub list-writes : listCheck head p buffer ≡ Accepted → ListAccepted (listed head p buffer)
   list-writes = writes list-is
 
   leaves : {r : AfterList} {why : Reason} → ListingOf r → listCheck head p buffer ≡ Refused why → (r .front ≡ []) × (r .buffer ≡ buffer)
@@ -136,6 +136,6 @@ module _ (head : Head) (p : Lent) (buffer : List ℕ) where
   question-accepted (Refused Reason.NoRoute) = (λ e. absurd (omega arith), λ e. absurd (not-both refl e))
   question-accepted (Refused Reason.Form) = (λ e. absurd (omega arith), λ e. absurd (not-both refl e))
 
-  pub question-exactly : (listNumber head p buffer ≡ 0) ↔ (listCheck head p buffer ≡ Accepted)
-  unfolding listNumber
+  pub question-exactly : (listQuestion head p buffer ≡ 0) ↔ (listCheck head p buffer ≡ Accepted)
+  unfolding listQuestion
   question-exactly = question-accepted (listCheck head p buffer)

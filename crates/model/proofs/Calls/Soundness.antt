@@ -1,8 +1,8 @@
 -- The test of soundness says what `Fit` says; sound data are consistent.
 -- Assumes nothing.
-use mathlib.Core.Path.{_≡_, refl, sym, ap, _∙_}
+use mathlib.Core.Path.{_≡_, refl, ap}
 use mathlib.Core.Logic.{_≢_}
-use mathlib.Core.Bool.{Bool, true, false, not, false≢true}
+use mathlib.Core.Bool.{Bool, true, false, not}
 use mathlib.Core.List.{List}
 use Prim.Native.Nat.{ℕ, zero, suc, _≤_, _<_}
 use native.Mathlib.Omega.{arith}
@@ -18,7 +18,7 @@ use Rattle.model.specs.Sound.{groundEntry, groundSound, learnedEntry, le
 use Rattle.model.specs.Sound.{linksSound, sound}
 use Rattle.model.specs.Ways.{Adj}
 use Rattle.model.specs.declared.Head.{Head}
-use Rattle.model.proofs.Lists.Bools.{and-left, and-right, and-both, or-right, make-or, use-test, make-test}
+use Rattle.model.proofs.Lists.Bools.{and-left, and-right, and-both, or-right, make-or, use-test, make-test, not-eqb}
 use Rattle.model.proofs.Lists.Filled.{every-at, all-every}
 use Rattle.model.proofs.Grid.Geometry.{ahead-is, allowed-on, stepped-low, stepped-high, adj-back}
 use Rattle.model.specs.Fit.{Linked, Fit}
@@ -54,9 +54,6 @@ module _ (w h : ℕ) (ground learned : List ℕ) where
     where
       at : (c : ℕ) → c < cells w h → (d : ℕ) → stepClose w h ground learned c d ≡ true
       at c l d = make-test (allowed w h ground c d) _ (λ a. le-leb _ _ (f c d l a))
-
-not-eqb : (a b : ℕ) → not (eqb a b) ≡ true → a ≢ b
-not-eqb a b e q = false≢true (sym (ap not (eq-eqb a b q)) ∙ e)
 
 module _ (w h goal : ℕ) (ground link : List ℕ) (c : ℕ) where
   link-there : linkEntry w h goal ground link c ≡ true → getD link c 0 ≢ 0 → Linked w h goal ground link c

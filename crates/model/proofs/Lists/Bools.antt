@@ -1,7 +1,11 @@
 -- Tests joined by and, or and not.
 -- Assumes nothing.
-use mathlib.Core.Path.{_≡_, refl, sym}
+use Prim.Native.Nat.{ℕ}
+use mathlib.Core.Path.{_≡_, refl, sym, ap, _∙_}
+use mathlib.Core.Logic.{_≢_}
 use mathlib.Core.Bool.{Bool, true, false, not, _&&_, _||_, false≢true}
+use borrow.Author.Tests.{eq-eqb, ltb-true, ltb-false, le-leb, lt-leb}
+use lib.Dec.{leb, ltb, eqb}
 
 pub and-left : (a b : Bool) → (a && b) ≡ true → a ≡ true
 and-left true b e = refl
@@ -47,3 +51,14 @@ and-false false = refl
 pub and-assoc : (a b c : Bool) → (a && (b && c)) ≡ ((a && b) && c)
 and-assoc true b c = refl
 and-assoc false b c = refl
+
+-- tests of numbers that are denied
+pub not-eqb : (a b : ℕ) → not (eqb a b) ≡ true → a ≢ b
+not-eqb a b e q = false≢true (sym (ap not (eq-eqb a b q)) ∙ e)
+
+pub not-leb : (n c : ℕ) → not (leb n c) ≡ ltb c n
+not-leb n c = go (ltb c n) refl
+  where
+    go : (b : Bool) → ltb c n ≡ b → not (leb n c) ≡ b
+    go true e = rw (lt-leb n c (ltb-true c n e)) refl
+    go false e = rw (le-leb n c (ltb-false c n e)) refl

@@ -3,12 +3,11 @@
 use mathlib.Core.Path.{_≡_, refl, sym, ap, ap₂, _∙_}
 use mathlib.Core.Bool.{true, not, false≢true}
 use mathlib.Core.List.{List, [], _∷_}
-use Prim.Native.Nat.{ℕ, _≤_, _<_}
+use Prim.Native.Nat.{ℕ, _≤_}
 use native.Mathlib.Omega.{arith}
 use borrow.Author.Tests.{eqb-true, eq-eqb, not-false}
 use lib.Dec.{eqb}
-use lib.ListN.{length, getD, take, length-replicate}
-use lib.Seq.{ext-getD, length-take-le, getD-take}
+use lib.ListN.{length, length-replicate}
 use Rattle.model.specs.Plot.{badSides}
 use Rattle.model.specs.Lent.{Lent, buffersOf}
 use Rattle.model.specs.Head.{cellsOf, cellsNamed}
@@ -25,6 +24,7 @@ use Rattle.model.proofs.Calls.Soundness.{sound-fit, fit-sound}
 use Rattle.model.proofs.Calls.Acceptance.{passed, room-lent, lent-room, both-on, on-both, place}
 use Rattle.model.proofs.Calls.FirstEntries.{SameEntries, fit-same}
 use Rattle.model.proofs.Lists.Bits.{low-bits-same}
+use Rattle.model.proofs.Lists.Fronted.{take-same}
 use Rattle.model.proofs.Lists.Gathered.{gathered-same}
 use Rattle.model.proofs.Record.RecordFields.{read-room, read-same, record-long, head-read, entries-read}
 
@@ -47,11 +47,6 @@ pub true-same : (a b : List ℕ) → a ≡ b → same a b ≡ true
 true-same a b e = rw (← e) (same-self a)
 
 -- The record reads the first N entries alone ----------------------------------------------------------------------------------------
-
-take-same : (n : ℕ) (l l′ : List ℕ) → n ≤ length l → n ≤ length l′ → ((c : ℕ) → c < n → getD l c 0 ≡ getD l′ c 0) → take n l ≡ take n l′
-take-same n l l′ r r′ e =
-    ext-getD 0 (take n l) (take n l′) (length-take-le n l r ∙ sym (length-take-le n l′ r′))
-    (λ i k. let m : i < n = rw (length-take-le n l r) at k in getD-take n l i 0 m ∙ e i m ∙ sym (getD-take n l′ i 0 m))
 
 pub record-same : (head : Head) (p q : Lent) → Room (cellsOf head) p → Room (cellsOf head) q → SameEntries (cellsOf head) p q
     → recordOf head p ≡ recordOf head q
@@ -92,14 +87,14 @@ module _ (head : Head) (p : Lent) (a : Held head p) where
 -- What load accepts -----------------------------------------------------------------------------------------------------------------
 
 -- load's tests, with no Bool for the data
-record Passed (bytes : List ℕ) (q : Lent) : Type 0 where
+record LoadPasses (bytes : List ℕ) (q : Lent) : Type 0 where
   sides : sidesFormed bytes ≡ true
   form : formed bytes ≡ true
   room : Room (cellsOf (headOf bytes)) q
   held : Held (headOf bytes) (readInto (cellsOf (headOf bytes)) bytes q)
 
 module _ (bytes : List ℕ) (q : Lent) where
-  load-passed : loadCheck bytes q ≡ Accepted → Passed bytes q
+  load-passed : loadCheck bytes q ≡ Accepted → LoadPasses bytes q
   unfolding loadCheck
   load-passed e =
       let head = headOf bytes in
@@ -124,7 +119,7 @@ module _ (bytes : List ℕ) (q : Lent) where
         };
       }
 
-  passed-load : Passed bytes q → loadCheck bytes q ≡ Accepted
+  passed-load : LoadPasses bytes q → loadCheck bytes q ≡ Accepted
   unfolding loadCheck
   passed-load t =
       let head = headOf bytes in

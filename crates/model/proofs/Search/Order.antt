@@ -17,20 +17,20 @@ use Rattle.model.proofs.Lists.Filled.{below-suc}
 -- One rule, and what the next rule says among equals ------------------------------------------------------------------------------
 
 -- smallerFirst, with no Bool
-pub data First (x y : ℕ) (next : Bool) : Type 0 where
-  less : x < y → First x y next
-  equal : x ≡ y → next ≡ true → First x y next
+pub data SmallerFirst (x y : ℕ) (next : Bool) : Type 0 where
+  less : x < y → SmallerFirst x y next
+  equal : x ≡ y → next ≡ true → SmallerFirst x y next
 
-pub first-is : (x y : ℕ) (next : Bool) → smallerFirst x y next ≡ true → First x y next
+pub first-is : (x y : ℕ) (next : Bool) → smallerFirst x y next ≡ true → SmallerFirst x y next
 unfolding smallerFirst
 first-is x y next = go _ _ refl refl
   where
-    go : (a b : Bool) → ltb x y ≡ a → eqb x y ≡ b → (a || (b && next)) ≡ true → First x y next
+    go : (a b : Bool) → ltb x y ≡ a → eqb x y ≡ b → (a || (b && next)) ≡ true → SmallerFirst x y next
     go true b e f q = less (ltb-true x y e)
     go false true e f q = equal (eqb-true x y f) q
     go false false e f q = absurd (false≢true q)
 
-is-first : (x y : ℕ) (next : Bool) → First x y next → smallerFirst x y next ≡ true
+is-first : (x y : ℕ) (next : Bool) → SmallerFirst x y next → smallerFirst x y next ≡ true
 unfolding smallerFirst
 is-first x y next (less l) = rw (lt-ltb x y l)
 is-first x y next (equal e n) = rw (le-ltb x y (omega arith), eq-eqb x y e, n)
@@ -50,7 +50,7 @@ first-trans : (x y u v p q : ℕ) (a b c : Bool) → Follows x y u v p q → (a 
     → smallerFirst x y a ≡ true → smallerFirst u v b ≡ true → smallerFirst p q c ≡ true
 first-trans x y u v p q a b c t on e f = is-first p q c (go (first-is x y a e) (first-is u v b f))
   where
-    go : First x y a → First u v b → First p q c
+    go : SmallerFirst x y a → SmallerFirst u v b → SmallerFirst p q c
     go (less i) (less j) = less (t .less-then i (omega arith))
     go (less i) (equal j _) = less (t .less-then i (omega arith))
     go (equal i _) (less j) = less (t .then-less (omega arith) j)
@@ -89,7 +89,7 @@ module _ (learned : List ℕ) (s : Scratch) where
   unfolding earlier
   earlier-le a b e = go (first-is _ _ _ e)
     where
-      go : {next : Bool} → First (total learned (s .cost) a) (total learned (s .cost) b) next → total learned (s .cost) a ≤ total learned (s .cost) b
+      go : {next : Bool} → SmallerFirst (total learned (s .cost) a) (total learned (s .cost) b) next → total learned (s .cost) a ≤ total learned (s .cost) b
       go (less l) = omega arith
       go (equal q _) = omega arith
 

@@ -105,16 +105,16 @@ module _ {w h goal cell : ℕ} (p : Lent) (r : Placed w h goal cell) (m : Room (
       go (no d) = absurd (omega (arith, e .holds .reached x seen d .dearer))
 
   -- THE TRAIL. k steps back from the stop stands a seen cell that costs k less.
-  pub record Back (k : ℕ) : Type 0 where
+  pub record TrailBack (k : ℕ) : Type 0 where
     pub seen : 1 ≤ markIn (cells w h) (s .mark) (backFrom w h (s .trail) t k)
     pub cheaper : at (s .cost) (backFrom w h (s .trail) t k) + k ≡ at (s .cost) t
 
-  back-is : (k : ℕ) → k ≤ at (s .cost) t → Back k
+  back-is : (k : ℕ) → k ≤ at (s .cost) t → TrailBack k
   unfolding backFrom
   back-is zero l = record { seen = omega (arith, e .pick .waits); cheaper = omega arith }
   back-is (suc k) l = go (back-is k (omega arith))
     where
-      go : Back k → Back (suc k)
+      go : TrailBack k → TrailBack (suc k)
       go b =
           let c = backFrom w h (s .trail) t k in
           let q = came-from c (at (s .cost) t - suc k) (b .seen) (omega (arith, b .cheaper)) in

@@ -29,7 +29,7 @@ use Rattle.record.proofs.form.FieldBodies.{one-of, two-of, ground-body,
 
 -- The tests, with no Bool ---------------------------------------------------------------------------------------------------------
 
-record Sides (bytes : List ℕ) : Type 0 where
+record SidesRead (bytes : List ℕ) : Type 0 where
   long : goalAt ≤ length bytes
   width : begins 1 1 (drop widthAt bytes) ≡ true
   height : begins 2 1 (drop heightAt bytes) ≡ true
@@ -43,14 +43,14 @@ record Rest (n : ℕ) (bytes : List ℕ) : Type 0 where
   learned : begins 6 (2 * n) (drop (learnedAt n) bytes) ≡ true
   link : begins 7 n (drop (linkAt n) bytes) ≡ true
 
-sides-are : (bytes : List ℕ) → sidesTest bytes ≡ true → Sides bytes
+sides-are : (bytes : List ℕ) → sidesTest bytes ≡ true → SidesRead bytes
 unfolding sidesTest
 sides-are bytes e =
     let t = both (leb goalAt (length bytes)) _ e in
     let u = both (begins 1 1 (drop widthAt bytes)) (begins 2 1 (drop heightAt bytes)) (t .1) in
     record { long = leb-true goalAt (length bytes) (t .0); width = u .0; height = u .1 }
 
-are-sides : (bytes : List ℕ) → Sides bytes → sidesTest bytes ≡ true
+are-sides : (bytes : List ℕ) → SidesRead bytes → sidesTest bytes ≡ true
 unfolding sidesTest
 are-sides bytes t = and-both _ _ (le-leb goalAt (length bytes) (t .long)) (and-both _ _ (t .width) (t .height))
 
@@ -117,7 +117,7 @@ part-long : (bytes : List ℕ) (at k : ℕ) → at + k ≤ length bytes → k �
 part-long bytes at k l = omega (arith, length-drop at bytes)
 
 module _ (bytes : List ℕ) where
-  sides-laid : Sides bytes → bytes ≡ field 1 (widthOf bytes ∷ []) ++ (field 2 (heightOf bytes ∷ []) ++ drop goalAt bytes)
+  sides-laid : SidesRead bytes → bytes ≡ field 1 (widthOf bytes ∷ []) ++ (field 2 (heightOf bytes ∷ []) ++ drop goalAt bytes)
   sides-laid t =
       let l = t .long in
       laid 1 1 widthAt bytes (widthOf bytes ∷ []) _ refl (t .width) (one-of (drop widthAt bytes) 0 (part-long bytes widthAt 4 (omega arith)))
@@ -125,7 +125,7 @@ module _ (bytes : List ℕ) where
       (one-of (drop heightAt bytes) 0 (part-long bytes heightAt 4 (omega arith))) refl)
 
   sides-found : (rest : List ℕ) → goalAt ≤ length bytes → bytes ≡ field 1 (widthOf bytes ∷ []) ++ (field 2 (heightOf bytes ∷ []) ++ rest)
-      → Sides bytes × (drop goalAt bytes ≡ rest)
+      → SidesRead bytes × (drop goalAt bytes ≡ rest)
   sides-found rest l e =
       let a = found 1 1 widthAt bytes (widthOf bytes ∷ []) (field 2 (heightOf bytes ∷ []) ++ rest) refl e in
       let b = found 2 1 heightAt bytes (heightOf bytes ∷ []) rest refl (a .1) in

@@ -136,7 +136,7 @@ module _ (bytes : List ℕ) {o : Changed} (e : o ≡ answered bytes (openCheck b
 -- Load, and unpack ------------------------------------------------------------------------------------------------------------------
 
 -- what load's checks leave
-pub record Passed (head : Head) (bytes : List ℕ) (p : Lent) : Type 0 where
+pub record ReadPasses (head : Head) (bytes : List ℕ) (p : Lent) : Type 0 where
   pub few : cellsOf head ≤ maxCells
   pub long : length bytes ≡ recordLength (cellsOf head)
   pub room : Room (cellsOf head) p
@@ -154,7 +154,7 @@ module _ (bytes : List ℕ) (p : Lent) {a : Changed} (e : a ≡ answered bytes (
     heads-read : a .head ≡ headOf bytes
     heads-read = ap (λ (x : Changed). x .head) (e ∙ ap (answered bytes) (sym verdicts ∙ f))
 
-    pub load-passed : Passed (a .head) bytes p
+    pub load-passed : ReadPasses (a .head) bytes p
     unfolding readInto
     load-passed =
         let q = sym verdicts ∙ f in

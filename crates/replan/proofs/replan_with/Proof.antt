@@ -91,7 +91,7 @@ slice-read-walked c =
       stop-on (entry (search past) .pre .passed) (after-search (search past) .search .ensures) refl (else1 (search past) .if1 .left)
           (else2 (search past) .if2 .left),
       sized (entry (search past) .pre .passed) .costs,
-      after-search (search past) .search .kept .1 .1 .1 .1 .1 .1 .0,
+      after-search (search past) .search .kept,
     )
 
 cast-walked : tie.Need-cast-walked
@@ -139,13 +139,13 @@ add-steps c =
 raise-requires : tie.Need-raise-requires
 raise-requires c κs = (
   held (entry (search past) .pre .passed) .room .learneds,
-  omega (arith, sized (entry (search past) .pre .passed) .costs, after-search (search past) .search .kept .1 .1 .1 .1 .1 .1 .0),
+  omega (arith, sized (entry (search past) .pre .passed) .costs, after-search (search past) .search .kept),
   omega (
     arith,
     entry (search past) .pre .space .lists,
     listed-few (entry (search past) .pre .passed) (after-search (search past) .search .ensures) refl (else1 (search past) .if1 .left)
         (else2 (search past) .if2 .left),
-    after-search (search past) .search .kept .1 .1 .1 .1 .1 .1 .1 .1 .1 .1 .1 .0,
+    after-search (search past) .search .kept,
   ),
   omega (
     arith,
@@ -160,7 +160,7 @@ relink-requires c κs = (
   held (entry (search past) .pre .passed) .placed .sides,
   stop-on (entry (search past) .pre .passed) (after-search (search past) .search .ensures) refl (else1 (search past) .if1 .left)
       (else2 (search past) .if2 .left),
-  omega (arith, sized (entry (search past) .pre .passed) .trails, after-search (search past) .search .kept .1 .1 .1 .1 .1 .1 .1 .0),
+  omega (arith, sized (entry (search past) .pre .passed) .trails, after-search (search past) .search .kept),
   held (entry (search past) .pre .passed) .room .links,
 )
 

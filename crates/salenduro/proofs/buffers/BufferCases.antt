@@ -14,7 +14,7 @@ use Rattle.model.specs.Refusals.{tooShort}
 use Rattle.model.specs.Report.{reported}
 use Rattle.model.specs.Plan.{afterPlan, planned}
 use Rattle.model.specs.Move.{moved}
-use Rattle.model.specs.Listing.{listCheck, listed, listNumber}
+use Rattle.model.specs.Listing.{listCheck, listed, listQuestion}
 use Rattle.model.specs.Store.{afterSave, saved}
 use Rattle.model.specs.declared.Head.{Head}
 use Rattle.model.specs.declared.Reason.{Reason}
@@ -26,8 +26,8 @@ use Rattle.model.specs.declared.Planned.{Planned}
 use Rattle.model.specs.declared.Moved.{Moved}
 use Rattle.model.specs.declared.Saved.{Saved}
 use Rattle.model.proofs.Calls.ListLaws.{list-leaves, question-exactly}
-use Rattle.calls.specs.RouteWritten.{Filled}
-use Rattle.salenduro.specs.Heads.{headSize, headIn, headAfter}
+use Rattle.calls.specs.RouteWritten.{RouteFilled}
+use Rattle.salenduro.specs.Heads.{headSize, headIn, headSet}
 use Rattle.salenduro.specs.Buffers.{unlessShort, AfterHost, AfterHostPlan, AfterHostFill, afterHost, afterHostPlan, afterHostFill, headed}
 use Rattle.salenduro.specs.Buffers.{countAfter, cellAfter, reportedHost, plannedHost, movedHost, listedHost, questionHost, savedHost}
 use Rattle.salenduro.proofs.AnswersFit.{question-fits}
@@ -50,7 +50,7 @@ fill-short head buffer e few y = rw (lt-ltb (length head) headSize few, e)
 
 -- layout and load: a is what the call leaves, and `put` what stands in the head array afterwards
 pub headed-called : (head : List ℕ) (x : AfterHost) (a : After Changed) {n : ℕ} {put : List ℕ} {r : Changed} {q : Lent} → headSize ≤ length head
-    → after r q ≡ a → put ≡ headAfter r head → n ≡ changedAnswer (r .verdict) → afterHost n put q ≡ unlessShort head x (headed head a)
+    → after r q ≡ a → put ≡ headSet r head → n ≡ changedAnswer (r .verdict) → afterHost n put q ≡ unlessShort head x (headed head a)
 headed-called head x a enough d e f = rw (le-ltb (length head) headSize enough, ← d, e, f)
 
 -- n is the number of the call's own answer r
@@ -84,12 +84,12 @@ module _ (head : List ℕ) (p : Lent) (buffer : List ℕ) where
   unfolding questionHost
   question-short few = rw (questionHost, lt-ltb (length head) headSize few)
 
-  pub question-called : headSize ≤ length head → questionHost head p buffer ≡ listNumber (headIn head) p buffer
+  pub question-called : headSize ≤ length head → questionHost head p buffer ≡ listQuestion (headIn head) p buffer
   unfolding questionHost
   question-called enough = rw (questionHost, le-ltb (length head) headSize enough)
 
-  number-why : {why : Reason} → listCheck (headIn head) p buffer ≡ Refused why → listNumber (headIn head) p buffer ≡ reasonNumber why
-  unfolding listNumber
+  number-why : {why : Reason} → listCheck (headIn head) p buffer ≡ Refused why → listQuestion (headIn head) p buffer ≡ reasonNumber why
+  unfolding listQuestion
   number-why q = ap verdictNumber q
 
   list-short : length head < headSize → afterHostFill (refusal Short) buffer ≡ listedHost head p buffer
@@ -101,7 +101,7 @@ module _ (head : List ℕ) (p : Lent) (buffer : List ℕ) where
   unfolding listedHost
   list-undone enough q = rw (listedHost, le-ltb (length head) headSize enough, q, list-leaves (headIn head) p buffer q .1)
 
-  list-done : headSize ≤ length head → listCheck (headIn head) p buffer ≡ Accepted → {k : ℕ} {l : List ℕ} → Filled (headIn head) p buffer k l
+  list-done : headSize ≤ length head → listCheck (headIn head) p buffer ≡ Accepted → {k : ℕ} {l : List ℕ} → RouteFilled (headIn head) p buffer k l
       → afterHostFill k l ≡ listedHost head p buffer
   unfolding listedHost listed
   list-done enough q f = rw (listedHost, le-ltb (length head) headSize enough, listed, q, f .count, f .is)
@@ -137,6 +137,6 @@ module _ (head : List ℕ) (p : Lent) (buffer : List ℕ) where
       pub list-may : {from : Head} → from ≡ headIn head → listCheck from p buffer ≡ Accepted
       list-may read = rw read (question-exactly (headIn head) p buffer .0 (sym (question-called list-enough) ∙ sym e ∙ none))
 
-      pub list-called : {from : Head} → from ≡ headIn head → {k : ℕ} {l : List ℕ} → Filled from p buffer k l
+      pub list-called : {from : Head} → from ≡ headIn head → {k : ℕ} {l : List ℕ} → RouteFilled from p buffer k l
           → afterHostFill k l ≡ listedHost head p buffer
       list-called read f = list-done list-enough (list-may refl) (rw read at f)

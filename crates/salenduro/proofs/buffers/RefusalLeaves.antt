@@ -16,7 +16,7 @@ use Rattle.model.specs.declared.Verdict.{Verdict}
 use Rattle.model.specs.declared.Verdict.the-variants.{Accepted, Refused}
 use Rattle.model.specs.declared.Changed.{Changed}
 use Rattle.model.specs.declared.Moved.{Moved}
-use Rattle.model.proofs.Calls.LayoutLaws.{Laying, layout-refused, layout-laid, layout-is}
+use Rattle.model.proofs.Calls.LayoutLaws.{LayingOut, layout-refused, layout-laid, layout-is}
 use Rattle.model.proofs.Calls.ReportLaws.{Reporting, report-refused, report-taken, report-is}
 use Rattle.model.proofs.Calls.PlanCases.{Planning, plan-refused, plan-there, plan-none, plan-found, plan-is}
 use Rattle.model.proofs.Calls.MoveLaws.{Moving, move-refused, move-there, move-lost, move-went, move-is, moved-held}
@@ -51,7 +51,7 @@ module _ (head : List ℕ) (p : Lent) where
   unfolding laidOutHost
   layout-stays w h start goal = either (Stays head p) head _ _ (λ _. (refl, refl)) (go (layout-is w h start goal p))
     where
-      go : {r : After Changed} → Laying w h start goal p r → Stays head p (headed head r)
+      go : {r : After Changed} → LayingOut w h start goal p r → Stays head p (headed head r)
       go (layout-refused e) l = (refl, refl)
       go (layout-laid a m) l = absurd (omega arith)
 

@@ -15,7 +15,7 @@ use Rattle.model.specs.Layout.{laidOut}
 use Rattle.model.specs.Report.{reported}
 use Rattle.model.specs.Plan.{AfterPlan, planned}
 use Rattle.model.specs.Move.{moved}
-use Rattle.model.specs.Listing.{listCheck, listed, listNumber}
+use Rattle.model.specs.Listing.{listCheck, listed, listQuestion}
 use Rattle.model.specs.Store.{AfterSave, saved, loaded}
 use Rattle.model.specs.declared.Reason.{Reason}
 use Rattle.model.specs.declared.Reason.the-variants.{Short}
@@ -115,7 +115,7 @@ module _ (head : List ℕ) (p : Lent) where
   -- the question's number is the reason's own
   pub question-tells : (buffer : List ℕ)
       → questionHost head p buffer ≡ verdictNumber (unlessShort head (Refused Short) (listCheck (headIn head) p buffer))
-  unfolding questionHost listNumber
+  unfolding questionHost listQuestion
   question-tells buffer = go (tooShort headSize head)
     where
       go : (b : Bool) → cond b (reasonNumber Short) (verdictNumber (listCheck (headIn head) p buffer))

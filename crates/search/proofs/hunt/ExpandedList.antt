@@ -9,7 +9,7 @@ use lib.ListN.{length, getD, set}
 use lib.Seq.{getD-set-same, getD-set-other}
 use Rattle.walks.proofs.Expansion.{OneMore}
 use Rattle.model.proofs.Grid.Views.{markIn, mark-on}
-use Rattle.search.specs.Listed.{Entry, Listed}
+use Rattle.search.specs.Listed.{ListEntry, Listed}
 
 -- one cell more is expanded, and stands at the end of the list
 pub list-on : {n : ℕ} {mark mark′ : List ℕ} {count x : ℕ} {list : List ℕ} → Listed n mark count list → x < n → count < length list
@@ -37,7 +37,7 @@ list-on {n} {mark} {mark′} {count} {x} {list} a on room o = record {
         go (yes e) = rw (e, getD-set-same list count x 0 room) new
         go (no d) = rw (getD-set-other list count i x 0 d) (old (omega arith))
 
-    find : (y : ℕ) → y < n → getD mark′ y 0 ≡ 2 → Dec (y ≡ x) → Entry (count + 1) (set list count x) y
+    find : (y : ℕ) → y < n → getD mark′ y 0 ≡ 2 → Dec (y ≡ x) → ListEntry (count + 1) (set list count x) y
     find y i m (yes e) = record { index = count; low = omega arith; named = getD-set-same list count x 0 room ∙ sym e }
     find y i m (no d) =
         let r = a .each-one y i (sym (mark-on n mark y i) ∙ o .back y d (mark-on n mark′ y i ∙ m)) in

@@ -1,6 +1,7 @@
 -- `search::search` meets its contract. Assumes nothing.
 use Rattle.search.proofs.SearchCases.{can-begin, huntable, hunted}
 use mathlib.Core.Path.{_∙_}
+use native.Mathlib.Omega.{arith}
 use borrow.Author.Needs.{needs}
 use Rattle.search.proofs.search.Statement.{statement}
 use Rattle.search.proofs.search.Tie as tie
@@ -55,7 +56,7 @@ same-length-5 : tie.Need-same-length-5
 same-length-5 c = search needs
 
 same-length-6 : tie.Need-same-length-6
-same-length-6 c = after-hunt (search past) .hunt .kept .1 .1 .1 .1 .1 .1 .1 .1 .1 .1 .0 ∙ after-clear (search past) .clear .kept .0
+same-length-6 c = omega (arith, after-hunt (search past) .hunt .kept, after-clear (search past) .clear .kept .0)
 
 same-length-7 : tie.Need-same-length-7
 same-length-7 c = search needs

@@ -4,13 +4,13 @@ use mathlib.Core.Path.{_≡_, refl}
 use Prim.Native.Nat.{_+_, _≤_, _-_, _*_}
 use native.Mathlib.Omega.{arith}
 use lib.ListN.{length, length-set}
-use Rattle.checks.specs.Flat.{Marked}
+use Rattle.checks.specs.Flat.{EndsMarked}
 use Rattle.checks.proofs.sound.RowEnds.{row-in, row-next, mark-start, mark-next, mark-end}
 use Rattle.checks.proofs.sound.mark_ends.Statement.{statement}
 use Rattle.checks.proofs.sound.mark_ends.Tie as tie
 
 abbrev Inv-loop : tie.InvT-loop
-Inv-loop end₀ w h row₀ at₀ end row at = (row ≤ h) × (at ≡ row * w + (w - 1)) × (length end ≡ length end₀) × Marked w row end
+Inv-loop end₀ w h row₀ at₀ end row at = (row ≤ h) × (at ≡ row * w + (w - 1)) × (length end ≡ length end₀) × EndsMarked w row end
 
 abbrev μ-loop : tie.MeasureT-loop
 μ-loop end₀ w h row₀ at₀ end row at = h - row

@@ -58,11 +58,11 @@ mark-ends-requires c κs = (
   clear-zeros maxCells,
 )
 
-slice-aggregate-rights-ok : tie.Need-slice-aggregate-rights-ok
-slice-aggregate-rights-ok c = search needs
+slice-aggregate-right-pairs : tie.Need-slice-aggregate-right-pairs
+slice-aggregate-right-pairs c = search needs
 
-rights-ok-requires : tie.Need-rights-ok-requires
-rights-ok-requires c κs =
+right-pairs-requires : tie.Need-right-pairs-requires
+right-pairs-requires c κs =
     spread-right (entry (search past) .pre) (good-sides _ _ (entry (search past) .pre .sides)) _ (after-mark-ends (search past) .mark-ends .kept .0)
     (after-mark-ends (search past) .mark-ends .ensures)
 
@@ -71,7 +71,7 @@ alone-requires c κs = spread (entry (search past) .pre) (good-sides _ _ (entry 
 
 returns : tie.Need-returns
 returns c =
-    flat-is _ _ _ _ _ _ _ _ _ _ _ _ (c .alone .ensures) (c .before .rights-ok .ensures) (after-pairs (search past) .pairs .ensures)
+    flat-is _ _ _ _ _ _ _ _ _ _ _ _ (c .alone .ensures) (c .before .right-pairs .ensures) (after-pairs (search past) .pairs .ensures)
     ∙ flat-sound _ _ _ _ _ _ (good-sides _ _ (entry (search past) .pre .sides)) (after-mark-ends (search past) .mark-ends .ensures)
     (clear-zeros maxCells) (entry (search past) .pre .goal-on)
 
@@ -85,7 +85,7 @@ sound-spec =
     pairs-requires
     slice-aggregate-mark-ends
     mark-ends-requires
-    slice-aggregate-rights-ok
-    rights-ok-requires
+    slice-aggregate-right-pairs
+    right-pairs-requires
     alone-requires
     returns)

@@ -127,9 +127,9 @@ loop-again c =
     let at-loop : tie.At-loop Inv-loop μ-loop = search past in
     let entry : tie.Start Inv-loop μ-loop = search past in
     looks-on _ _ _ _ _ _ (at-loop .loop .inv) (in-loop .loop-test .taken) (entry .pre .0 .6) refl (after-ahead .ahead .ensures)
-    (rw (entry .pre .0 .0) at (after-look-at .look-at .ensures)) (after-look-at .look-at .kept .1 .1 .0)
-    (after-look-at .look-at .kept .1 .1 .1 .0) (after-look-at .look-at .kept .1 .1 .1 .1 .0)
-    (after-look-at .look-at .kept .1 .1 .1 .1 .1 .0) (after-look-at .look-at .kept .1 .1 .1 .1 .1 .1 .0)
+    (rw (entry .pre .0 .0) at (after-look-at .look-at .ensures)) (search (after-look-at .look-at .kept))
+    (search (after-look-at .look-at .kept)) (search (after-look-at .look-at .kept))
+    (search (after-look-at .look-at .kept)) (search (after-look-at .look-at .kept))
 
 same-length : tie.Need-same-length Inv-loop μ-loop
 same-length c = at-loop (search past) .loop .inv .mark-same ∙ simp length-set

@@ -95,7 +95,7 @@ same-length-5 : tie.Need-same-length-5 Inv-loop μ-loop
 same-length-5 c = at-loop (search past) .loop .inv .place-same
 
 same-length-6 : tie.Need-same-length-6 Inv-loop μ-loop
-same-length-6 c = after-stops (search past) .stops .kept .1 .1 .1 .1 .1 .1 .0 ∙ at-loop (search past) .loop .inv .gone-same
+same-length-6 c = omega (arith, after-stops (search past) .stops .kept, at-loop (search past) .loop .inv .gone-same)
 
 same-length-7 : tie.Need-same-length-7 Inv-loop μ-loop
 same-length-7 c = at-loop (search past) .loop .inv .list-same
@@ -134,6 +134,7 @@ loop-again : tie.Need-loop-again Inv-loop μ-loop
 loop-again c =
     let after-expand : tie.After-expand Inv-loop μ-loop = search past in
     let else1 : tie.Else1 Inv-loop μ-loop = search past in
+    let kept = after-expand .expand .kept in
     let after-stops : tie.After-stops Inv-loop μ-loop = search past in
     let after-cell-of : tie.After-cell-of Inv-loop μ-loop = search past in
     let in-loop : tie.In-loop Inv-loop μ-loop = search past in
@@ -142,11 +143,9 @@ loop-again c =
     hunt-on (entry .pre) (at-loop .loop .inv) _ (omega (arith, in-loop .loop-test .taken))
     (after-cell-of .cell-of .ensures) _ _ _ _ _ (sym (after-stops .stops .ensures .answer) ∙ else1 .if1 .left)
     (rw (entry .pre .count) at (after-expand .expand .ensures))
-    (after-stops .stops .ensures .memory (else1 .if1 .left)) (after-expand .expand .kept .1 .1 .1 .1 .0)
-    (after-expand .expand .kept .1 .1 .1 .1 .1 .0) (after-expand .expand .kept .1 .1 .1 .1 .1 .1 .0)
-    (after-expand .expand .kept .1 .1 .1 .1 .1 .1 .1 .0)
-    (after-expand .expand .kept .1 .1 .1 .1 .1 .1 .1 .1 .0)
-    (after-stops .stops .kept .1 .1 .1 .1 .1 .1 .0)
+    (after-stops .stops .ensures .memory (else1 .if1 .left))
+    (omega (arith, kept)) (omega (arith, kept)) (omega (arith, kept)) (omega (arith, kept)) (omega (arith, kept))
+    (search (after-stops .stops .kept))
 
 same-length-8 : tie.Need-same-length-8 Inv-loop μ-loop
 same-length-8 c = at-loop (search past) .loop .inv .mark-same

@@ -1,7 +1,7 @@
--- `checks::sound::rights_ok` meets its contract: the mark that is read is 1. Assumes nothing.
+-- `checks::sound::right_pairs` meets its contract: the mark that is read is 1. Assumes nothing.
 use native.Mathlib.Omega.{arith}
-use Rattle.checks.proofs.sound.rights_ok.Statement.{statement}
-use Rattle.checks.proofs.sound.rights_ok.Tie as tie
+use Rattle.checks.proofs.sound.right_pairs.Statement.{statement}
+use Rattle.checks.proofs.sound.right_pairs.Tie as tie
 
 -- The places that the needs name (tools/name-places writes this block).
 abbrev entry : tie.Start → tie.Start
@@ -25,7 +25,7 @@ pairs-requires c κs = let entry : tie.Start = search c in rw (entry .pre .3) (e
 returns : tie.Need-returns
 returns c = let entry : tie.Start = search c in rw (entry .pre .3) at (c .pairs .ensures)
 
-pub rights-ok-spec : {M : Type 1} → statement M
-rights-ok-spec =
+pub right-pairs-spec : {M : Type 1} → statement M
+right-pairs-spec =
     tie.close
     (tie.spec sub-step shared-slice-read-step cast-step sub-pairs pairs-requires returns)
