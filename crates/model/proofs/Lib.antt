@@ -1,4 +1,4 @@
--- The laws of the definitions, in five folders.
+-- The laws of the definitions, in six folders.
 -- Lists: what holds of lists, loops and tests, whatever they are about.
 pub mod Lists
 -- Grid: steps, distances and routes on the plot.
@@ -9,3 +9,5 @@ pub mod Search
 pub mod Calls
 -- Record: the record's bytes, save and load, and the calls over a record.
 pub mod Record
+-- Computed: document 01's worked examples, shortcuts and edges, by computation. No contract cites them.
+pub mod Computed

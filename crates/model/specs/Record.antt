@@ -1,5 +1,6 @@
 -- The record: its bytes for a state, and the state that bytes hold.
-use Rattle.std.specs.Prelude.{ℕ, zero, suc, ◌+◌, ◌*◌, ◌/◌, ◌%◌, ◌^◌, Bool, true, false, cond, ◌&&◌, List, [], ◌∷◌, ◌++◌, length, get_or, take, drop, replicate, ltb, eqb}
+use Rattle.std.specs.Prelude.{ℕ, zero, suc, ◌+◌, ◌*◌, ◌/◌, ◌%◌, ◌^◌, Bool, true, false, cond, ◌&&◌, List, [], ◌∷◌, ◌++◌, length, get_or, take, drop}
+use Rattle.std.specs.Prelude.{replicate, ltb, eqb}
 use Rattle.model.specs.Lists.{filled, gathered}
 use Rattle.model.specs.Lent.{Lent, lent_with}
 use Rattle.model.specs.Head.{head_at, cells_of}

@@ -1,13 +1,15 @@
 // The declared types of the calls: the head, why a call is refused, and what each call answers.
 // The definitions that say what the calls do stand in specs/, in document 01's order; their laws stand in proofs/.
 
+#![tactic(auto)]
+
 ghost use Rattle.std.specs.Prelude.{◌≡◌};
 ghost use Rattle.model.specs.Plot.{bad_sides};
 ghost use Rattle.model.specs.Numbers.{reason_number, outcome_verdict, step_verdict};
 ghost use Rattle.model.specs.Head.{head_at, no_head, moved_to, aimed_at};
 
 // The plot's sides, its goal and the cart's cell. It goes in by value, and the next head comes back.
-#[derive(Drop)]
+#[derive(Clone, Copy)]
 pub struct Head {
     pub width: usize,
     pub height: usize,
@@ -22,6 +24,7 @@ impl Head {
     pub const MAX_CELLS: usize = Self::MAX_SIDE * Self::MAX_SIDE;
 
     // A side is 0 or above the largest. Good sides come first: only they have a product that fits.
+    #[tactic(auto, unfolding(crate::specs::Plot::bad_sides))]
     pub fn bad_sides(width: usize, height: usize) -> bool
         ensures { result ≡ bad_sides width height }
     {
@@ -73,7 +76,7 @@ impl Head {
 }
 
 // Why a call is refused, in the order of document 01's table.
-#[derive(Drop)]
+#[derive(Clone, Copy)]
 pub enum Reason {
     Sides,
     Short,
@@ -100,21 +103,21 @@ impl Reason {
     }
 }
 
-#[derive(Drop)]
+#[derive(Clone, Copy)]
 pub enum Verdict {
     Accepted,
     Refused(Reason),
 }
 
 // What layout, report and load answer.
-#[derive(Drop)]
+#[derive(Clone, Copy)]
 pub struct Changed {
     pub head: Head,
     pub verdict: Verdict,
 }
 
 // What plan answers: how it ended, and the count of expanded cells, 0 where there was no search.
-#[derive(Drop)]
+#[derive(Clone, Copy)]
 pub enum Outcome {
     Route(usize),
     NoWay,
@@ -135,7 +138,7 @@ impl Outcome {
     }
 }
 
-#[derive(Drop)]
+#[derive(Clone, Copy)]
 pub struct Planned {
     pub head: Head,
     pub expanded: usize,
@@ -143,7 +146,7 @@ pub struct Planned {
 }
 
 // What move answers.
-#[derive(Drop)]
+#[derive(Clone, Copy)]
 pub enum Step {
     Moved,
     Arrived,
@@ -162,20 +165,20 @@ impl Step {
     }
 }
 
-#[derive(Drop)]
+#[derive(Clone, Copy)]
 pub struct Moved {
     pub head: Head,
     pub step: Step,
 }
 
 // What save answers: the record's length.
-#[derive(Drop)]
+#[derive(Clone, Copy)]
 pub enum Length {
     Bytes(usize),
     Refused(Reason),
 }
 
-#[derive(Drop)]
+#[derive(Clone, Copy)]
 pub struct Saved {
     pub head: Head,
     pub length: Length,

@@ -27,7 +27,8 @@ use Rattle.model.proofs.Calls.ReportLaws.{report_rest_law}
 use Rattle.model.proofs.Record.RecordLaws.{load_held}
 use Rattle.promises.specs.Asking.{Ask, layout, report, plan, move, list, question, save, load, report_c, plan_c, move_c}
 use Rattle.promises.specs.Table.{Done, Sized, Checked, ListRows, LoadRows, Rows}
-use Rattle.promises.proofs.TestsAreRows.{bad_sides_law, any_short_law, any_outside_law, too_short_law, equal, failing, unfit, routeless, least, RowsFollow, done}
+use Rattle.promises.proofs.TestsAreRows.{bad_sides_law, any_short_law, any_outside_law, too_short_law, equal, failing, unfit, routeless, least}
+use Rattle.promises.proofs.TestsAreRows.{RowsFollow, done}
 use Rattle.promises.proofs.TestsAreRows.{row, row_then, Chain, chain_end, same_verdict, then_then, then_accepted}
 
 -- The shared tests --------------------------------------------------------------------------------------------------------------------
@@ -36,7 +37,8 @@ sized_then : (w h : ℕ) (buffers : List (List ℕ)) (names : List ℕ) {next : 
     → Chain (fits w h buffers names) next (Sized w h buffers names later)
 unfolding fits
 sized_then w h buffers names f =
-    row_then (bad_sides_law w h) (λ _. row_then (any_short_law (cells w h) buffers) (λ _. row_then (any_outside_law (cells w h) names) (λ _. chain_end f)))
+    row_then (bad_sides_law w h)
+    (λ _. row_then (any_short_law (cells w h) buffers) (λ _. row_then (any_outside_law (cells w h) names) (λ _. chain_end f)))
 
 module _ (head : Head) (p : Lent) (buffers : List (List ℕ)) (names : List ℕ) where
   checked_then : {next : Verdict} {later : Reason → Type 0} → RowsFollow next later
@@ -110,4 +112,5 @@ follows (report_c bytes c) =
 follows (plan_c bytes) = same_verdict (sym (then_accepted (load_check bytes own_room))) (loaded_then bytes own_room (λ _. done))
 follows (move_c bytes) =
     loaded_then bytes own_room (λ e.
-    same_verdict (rw (held_accepts (head_of bytes) (state_in bytes) (load_held bytes own_room e))) (row (routeless (head_of bytes) (state_in bytes)) done))
+    same_verdict (rw (held_accepts (head_of bytes) (state_in bytes) (load_held bytes own_room e)))
+    (row (routeless (head_of bytes) (state_in bytes)) done))

@@ -13,7 +13,7 @@ use lib.Seq.{get_or-set_same, get_or-set_other}
 use Rattle.walks.proofs.Routes.{First, first_step, route_leave}
 use Rattle.model.specs.Lent.{Lent, After}
 use Rattle.model.specs.Head.{cells_of}
-use Rattle.model.specs.Route.{next, stands}
+use Rattle.model.specs.Route.{stands}
 use Rattle.model.specs.Refusals.{acceptance}
 use Rattle.model.specs.Move.{stepped, head_onward, lists_onward, moved}
 use Rattle.model.specs.Ways.{Accepts, Shortest}
