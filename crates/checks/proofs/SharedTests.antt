@@ -20,7 +20,7 @@ use Rattle.model.specs.declared.Verdict.{Verdict}
 use Rattle.model.specs.declared.Verdict.TheVariants.{Accepted, Refused}
 use Rattle.model.specs.declared.Reason.{Reason}
 use Rattle.model.specs.declared.Reason.TheVariants.{Unsound}
-use Rattle.model.proofs.Lists.Bools.{make_or, or-false as both_false}
+use Rattle.model.proofs.Lists.Bools.{make_or, or_false as both_false}
 use Rattle.model.proofs.Calls.Acceptance.{room_lent, both_on, fits_passed}
 use Rattle.checks.specs.Given.{Given}
 use Rattle.checks.specs.SharedTests.{blank, fits_within, fits_with, check_with}

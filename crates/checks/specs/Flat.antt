@@ -10,7 +10,7 @@ use Rattle.model.specs.Fit.{Room}
 unfoldable pub cell_test : (g k : ℕ) → Bool
 cell_test g k = leb g 1 && (leb k 4 && (eqb k 0 || eqb g 0))
 
-abbrev pub cell_at : (ground link : List ℕ) → ℕ → Bool
+abbrev pub cell_at : (ground : List ℕ) (link : List ℕ) → ℕ → Bool
 cell_at ground link i = cell_test (get_or ground i 0) (get_or link i 0)
 
 -- a learned value is at most `top`

@@ -1,10 +1,13 @@
 // The tests of every call: whether it is refused, and why. Each takes every input and only reads; a call asks here once, and
 // writes after. `sound` is the soundness test, `rest` what is left to ask of accepted data.
+
+#![tactic(auto)]
+
 pub mod rest;
 pub mod sound;
 
 ghost use Rattle.std.specs.Prelude.{◌≡◌, min, max};
-ghost use Rattle.model.specs.Lent.{lent_before, scratch_before};
+ghost use Rattle.model.specs.Lent.{lent_with, scratch_with};
 ghost use Rattle.model.specs.Refusals.{acceptance};
 ghost use Rattle.model.specs.Layout.{layout_check};
 ghost use Rattle.model.specs.Report.{report_check};
@@ -53,7 +56,7 @@ fn check_with(
     spare: usize,
     also: usize,
 ) -> Verdict
-    ensures { result ≡ check_with head (lent_before ground learned link) spare also }
+    ensures { result ≡ check_with head (lent_with ground.now learned.now link.now) spare also }
 {
     let room = min(spare, min(ground.len(), min(learned.len(), link.len())));
     let far = max(also, max(head.goal, head.cell));
@@ -69,7 +72,7 @@ fn check_with(
 
 // Whether the data are accepted. Nothing further is lent or named: ground and the goal, which are asked anyway, stand in.
 pub fn acceptance(head: Head, ground: &[u8], learned: &[u16], link: &[u8]) -> Verdict
-    ensures { result ≡ acceptance head (lent_before ground learned link) }
+    ensures { result ≡ acceptance head (lent_with ground.now learned.now link.now) }
 {
     check_with(head, ground, learned, link, ground.len(), head.goal)
 }
@@ -84,7 +87,7 @@ pub fn layout_check(
     learned: &[u16],
     link: &[u8],
 ) -> Verdict
-    ensures { result ≡ layout_check width height start goal (lent_before ground learned link) }
+    ensures { result ≡ layout_check width height start goal (lent_with ground.now learned.now link.now) }
 {
     let room = min(ground.len(), min(learned.len(), link.len()));
     fits_within(width, height, room, max(goal, start))
@@ -92,7 +95,7 @@ pub fn layout_check(
 
 // Whether report is refused: 5 comes last.
 pub fn report_check(head: Head, ground: &[u8], learned: &[u16], link: &[u8], c: usize) -> Verdict
-    ensures { result ≡ report_check head (lent_before ground learned link) c }
+    ensures { result ≡ report_check head (lent_with ground.now learned.now link.now) c }
 {
     let verdict = check_with(head, ground, learned, link, ground.len(), c);
     if let Verdict::Refused(why) = verdict {
@@ -114,8 +117,8 @@ pub fn plan_check(
     cost: &[u16],
     trail: &[u8],
 ) -> Verdict
-    ensures { result ≡ plan_check head (lent_before ground learned link)
-        (scratch_before mark cost trail) }
+    ensures { result ≡ plan_check head (lent_with ground.now learned.now link.now)
+        (scratch_with mark.now cost.now trail.now) }
 {
     let spare = min(mark.len(), min(cost.len(), trail.len()));
     check_with(head, ground, learned, link, spare, head.goal)

@@ -3,7 +3,7 @@
 ghost use Rattle.std.specs.Prelude.{◌≡◌, ◌+◌, ◌-◌, ◌*◌, ◌≤◌, ◌<◌, length, get_or, leb};
 ghost use Rattle.model.specs.Lists.{every};
 ghost use Rattle.model.specs.Plot.{gap};
-ghost use Rattle.model.specs.Lent.{lent_before};
+ghost use Rattle.model.specs.Lent.{lent_with};
 ghost use Rattle.model.specs.Sound.{sound};
 ghost use Rattle.checks.specs.Given.{Given};
 ghost use Rattle.checks.specs.Flat.{cell_test, cell_at, small_at, near_test, near_at, lead_test, lead_at, pairs, edge_test, edge_at, alone, InRows};
@@ -193,7 +193,7 @@ fn alone(
 // Whether the data are sound. No row ends between a cell and the one below it: those pairs go first, while no end is marked.
 pub fn sound(head: Head, ground: &[u8], learned: &[u16], link: &[u8]) -> bool
     requires { Given head ground.now learned.now link.now }
-    ensures { result ≡ sound head (lent_before ground learned link) }
+    ensures { result ≡ sound head (lent_with ground.now learned.now link.now) }
 {
     let w = head.width;
     let h = head.height;

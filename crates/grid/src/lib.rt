@@ -1,4 +1,7 @@
 // Steps on the plot: the opposite direction, and the cell ahead of a cell. `routes` follows links, `fills` fills lists.
+
+#![tactic(auto)]
+
 pub mod fills;
 pub mod routes;
 

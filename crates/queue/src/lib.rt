@@ -1,5 +1,8 @@
 // The queue of waiting cells: an indexed binary heap of packed keys. heap holds keys in entries 1 .. len, with 0 in entry 0;
 // place holds where each waiting cell's key stands. Sifting moves a hole, and stores the key in hand once, at the end.
+
+#![tactic(auto)]
+
 ghost use Rattle.std.specs.Prelude.{◌≡◌, ◌+◌, ◌*◌, ◌%◌, ◌<◌, ◌≤◌, get_or};
 ghost use Rattle.queue.specs.Queue.{none, key_of, Lesser, Queue, Rising, Risen, Gap, Sunk, Lowered, Absent, Waits, Popped};
 

@@ -6,7 +6,6 @@ use borrow.Author.Tests.{le-leb, lt-leb, eq-eqb, ne_eqb}
 use Rattle.model.specs.Head.{cells_of}
 use Rattle.model.specs.declared.Head.{Head}
 use Rattle.model.specs.declared.Reason.TheVariants.{Outside, OwnCell}
-use Rattle.model.specs.declared.Verdict.{Verdict}
 use Rattle.model.specs.declared.Verdict.TheVariants.{Accepted, Refused}
 use Rattle.checks.specs.Rest.{report_rest}
 

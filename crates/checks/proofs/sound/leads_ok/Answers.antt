@@ -1,0 +1,10 @@
+-- `checks::sound::leads_ok` meets its contract: a scan, whose flag is the test over the pairs passed. Assumes nothing.
+use Rattle.model.proofs.Lists.Scans.{every_none, every_more}
+use native.Mathlib.Omega.{arith}
+use Rattle.checks.proofs.sound.leads_ok.Goals as goal
+
+pub loop-i-init : goal.loop-i-init
+loop-i-init c = (omega arith, every_none _)
+
+pub loop-i-preserved : goal.loop-i-preserved
+loop-i-preserved c = (omega arith, every_more _ _ _ _ c.loop-i.invariant.1 c.lead_test-ok.ensures)
