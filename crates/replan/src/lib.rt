@@ -1,9 +1,12 @@
 // The core of plan, over data that were accepted: the search, and where it stopped what is learned and relinked (`learn`).
 // It is no entry point; the call is in crate `calls`.
+
+#![tactic(auto)]
+
 pub mod learn;
 
 ghost use Rattle.std.specs.Prelude.{◌≡◌};
-ghost use Rattle.model.specs.Lent.{lent_now, lent_before, lent_after, scratch_now, scratch_before, scratch_after};
+ghost use Rattle.model.specs.Lent.{lent_with, scratch_with};
 ghost use Rattle.model.specs.Plan.{after_plan, planned};
 ghost use Rattle.replan.specs.Passed.{Passed, Planable};
 
@@ -26,11 +29,11 @@ pub fn replan_with(
     gone: &mut [u8],
     list: &mut [u16],
 ) -> Planned
-    requires { Planable head (lent_now ground learned link) (scratch_now mark cost trail) heap.old place.old gone.old list.old }
-    ensures { after_plan result (lent_after ground learned link)
-        (scratch_after mark cost trail)
-        ≡ planned head (lent_before ground learned link)
-        (scratch_before mark cost trail) }
+    requires { Planable head (lent_with ground.now learned.old link.old) (scratch_with mark.old cost.old trail.old) heap.old place.old gone.old list.old }
+    ensures { after_plan result (lent_with ground.now learned.new link.new)
+        (scratch_with mark.new cost.new trail.new)
+        ≡ planned head (lent_with ground.now learned.old link.old)
+        (scratch_with mark.old cost.old trail.old) }
 {
     if head.cell == head.goal {
         return Planned {
@@ -73,11 +76,11 @@ pub fn replan(
     cost: &mut [u16],
     trail: &mut [u8],
 ) -> Planned
-    requires { Passed head (lent_now ground learned link) (scratch_now mark cost trail) }
-    ensures { after_plan result (lent_after ground learned link)
-        (scratch_after mark cost trail)
-        ≡ planned head (lent_before ground learned link)
-        (scratch_before mark cost trail) }
+    requires { Passed head (lent_with ground.now learned.old link.old) (scratch_with mark.old cost.old trail.old) }
+    ensures { after_plan result (lent_with ground.now learned.new link.new)
+        (scratch_with mark.new cost.new trail.new)
+        ≡ planned head (lent_with ground.now learned.old link.old)
+        (scratch_with mark.old cost.old trail.old) }
 {
     let mut heap: [u64; queue::ROOM] = [0; queue::ROOM];
     let mut place: [u16; Head::MAX_CELLS] = [0; Head::MAX_CELLS];

@@ -1,5 +1,5 @@
 // How a search begins: every cell is unseen but the cart's own, which waits alone.
-ghost use Rattle.model.specs.Lent.{scratch_now, scratch_before, scratch_after};
+ghost use Rattle.model.specs.Lent.{scratch_with};
 ghost use Rattle.model.specs.Search.{begun};
 ghost use Rattle.search.specs.Waiting.{Did};
 ghost use Rattle.search.specs.Begin.{CanBegin};
@@ -17,10 +17,10 @@ pub fn begin(
     heap: &mut [u64],
     place: &mut [u16],
 )
-    requires { CanBegin n cell learned.now (scratch_now mark cost trail) heap.old place.old }
+    requires { CanBegin n cell learned.now (scratch_with mark.old cost.old trail.old) heap.old place.old }
     ensures { Did n learned.now
-        (begun n cell (scratch_before mark cost trail))
-        (scratch_after mark cost trail) 1 heap.new place.new }
+        (begun n cell (scratch_with mark.old cost.old trail.old))
+        (scratch_with mark.new cost.new trail.new) 1 heap.new place.new }
 {
     clear(mark, n);
     unsee(cost, n);

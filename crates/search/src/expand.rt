@@ -1,7 +1,7 @@
 // An expansion: the cell goes out of the queue and looks at its neighbours, which come in or are lowered there.
 ghost use Rattle.std.specs.Prelude.{◌≡◌, true, ◌%◌, ◌<◌, ◌≤◌, length, get_or};
 ghost use Rattle.model.specs.Plot.{cells, free};
-ghost use Rattle.model.specs.Lent.{scratch_now, scratch_before, scratch_after};
+ghost use Rattle.model.specs.Lent.{scratch_with};
 ghost use Rattle.model.specs.Search.{reached, expanded};
 ghost use Rattle.queue.specs.Queue.{Absent, Waits, Lowered};
 ghost use Rattle.search.specs.Waiting.{looked_at, Queued, Did};
@@ -35,10 +35,10 @@ fn reach(
     g: u16,
     d: u8,
 ) -> usize
-    requires { (y < n) × (g ≤ get_or cost.old y 0) × Queued n learned.now (scratch_now mark cost trail) len heap.old place.old }
+    requires { (y < n) × (g ≤ get_or cost.old y 0) × Queued n learned.now (scratch_with mark.old cost.old trail.old) len heap.old place.old }
     ensures { Did n learned.now
-        (reached y g d (scratch_before mark cost trail))
-        (scratch_after mark cost trail) result heap.new place.new }
+        (reached y g d (scratch_with mark.old cost.old trail.old))
+        (scratch_with mark.new cost.new trail.new) result heap.new place.new }
 {
     let k = queue::key_of(g, learned[y], y as u16);
     let was = mark[y];
@@ -63,10 +63,10 @@ fn look_at(
     g: u32,
     d: u8,
 ) -> usize
-    requires { (n ≤ length ground.now) × Queued n learned.now (scratch_now mark cost trail) len heap.old place.old }
+    requires { (n ≤ length ground.now) × Queued n learned.now (scratch_with mark.old cost.old trail.old) len heap.old place.old }
     ensures { Did n learned.now
-        (looked_at ground.now n y g d (scratch_before mark cost trail))
-        (scratch_after mark cost trail) result heap.new place.new }
+        (looked_at ground.now n y g d (scratch_with mark.old cost.old trail.old))
+        (scratch_with mark.new cost.new trail.new) result heap.new place.new }
 {
     if n <= y {
         return len;
@@ -99,10 +99,10 @@ pub fn expand(
 ) -> usize
     requires n_value { (n ≡ cells width height) × (width ≤ n) × (0 < width) × (1 ≤ len) × (x ≡ get_or heap.old 1 0 % 65536) × (n ≤ length ground.now)
         × (free ground.now x ≡ true) }
-    requires queued { Queued n learned.now (scratch_now mark cost trail) len heap.old place.old }
+    requires queued { Queued n learned.now (scratch_with mark.old cost.old trail.old) len heap.old place.old }
     ensures { Did n learned.now
-        (expanded width height ground.now x (scratch_before mark cost trail))
-        (scratch_after mark cost trail) result heap.new place.new }
+        (expanded width height ground.now x (scratch_with mark.old cost.old trail.old))
+        (scratch_with mark.new cost.new trail.new) result heap.new place.new }
 {
     let g = cost[x] as u32 + 1;
     let col = x % width;

@@ -1,5 +1,5 @@
 // The search's loop: take the first of the queue, stop there or expand it, until nothing waits.
-ghost use Rattle.model.specs.Lent.{lent_now, lent_before, scratch_now, scratch_before, scratch_after};
+ghost use Rattle.model.specs.Lent.{lent_with, scratch_with};
 ghost use Rattle.search.specs.Hunt.{Huntable, Hunted};
 
 use crate::expand::expand;
@@ -9,7 +9,7 @@ use model::Head;
 use queue::cell_of;
 
 // Where a search ended, n where nothing waits, and how many cells it expanded.
-#[derive(Drop)]
+#[derive(Clone, Copy)]
 pub struct End {
     pub at: usize,
     pub count: usize,
@@ -30,10 +30,10 @@ pub fn hunt(
     gone: &mut [u8],
     list: &mut [u16],
 ) -> End
-    requires { Huntable head (lent_now ground learned link) n (scratch_now mark cost trail) heap.old place.old gone.old list.old }
-    ensures { Hunted head (lent_before ground learned link) n
-        (scratch_before mark cost trail) result.at result.count
-        (scratch_after mark cost trail) list.new }
+    requires { Huntable head (lent_with ground.now learned.now link.now) n (scratch_with mark.old cost.old trail.old) heap.old place.old gone.old list.old }
+    ensures { Hunted head (lent_with ground.now learned.now link.now) n
+        (scratch_with mark.old cost.old trail.old) result.at result.count
+        (scratch_with mark.new cost.new trail.new) list.new }
 {
     let mut waiting = 1;
     let mut count = 0;

@@ -4,12 +4,12 @@ use mathlib.Core.Path.{◌≡◌, sym, ap, ◌∙◌}
 use mathlib.Core.List.{List}
 use Prim.Native.Nat.{ℕ, ◌≤◌, ◌<◌}
 use native.Mathlib.Omega.{arith}
-use lib.ListN.{length, get_or, set, length-set}
-use lib.Seq.{get_or-set_same, get_or-set_other, set-get_or}
+use lib.ListN.{get_or, set}
+use lib.Seq.{get_or-set_same, set-get_or}
 use Rattle.model.specs.Lists.{filled, each}
 use Rattle.model.specs.Lent.{Scratch, scratch_with}
 use Rattle.model.specs.Search.{unseen_cost, begun}
-use Rattle.model.proofs.Lists.Filled.{length_filled, filled_at, filled_above, filled_again, filled_over}
+use Rattle.model.proofs.Lists.Filled.{length_filled, filled_at, filled_again, filled_over}
 use Rattle.queue.specs.Queue.{key_of, none, Absent, Lowered}
 use Rattle.queue.proofs.Gaps.{room_heap}
 use Rattle.search.specs.Waiting.{Queued, Did}
