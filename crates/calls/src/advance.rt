@@ -1,6 +1,6 @@
 // Move, which is a word of the language: the cart goes one step along its route.
 ghost use Rattle.std.specs.Prelude.{◌≡◌};
-ghost use Rattle.model.specs.Lent.{after, lent_now, lent_before, lent_after};
+ghost use Rattle.model.specs.Lent.{after, lent_with};
 ghost use Rattle.model.specs.Move.{moved};
 ghost use Rattle.model.specs.Ways.{Accepts};
 
@@ -11,8 +11,8 @@ use model::{Head, Moved, Reason, Step, Verdict};
 
 // Move. (The ground is not asked: sound links lead to free cells.)
 pub fn onward(head: Head, ground: &[u8], learned: &[u16], link: &mut [u8]) -> Moved
-    requires { Accepts head (lent_now ground learned link) }
-    ensures { after result (lent_after ground learned link) ≡ moved head (lent_before ground learned link) }
+    requires { Accepts head (lent_with ground.now learned.now link.old) }
+    ensures { after result (lent_with ground.now learned.now link.new) ≡ moved head (lent_with ground.now learned.now link.old) }
 {
     let width = head.width;
     let height = head.height;
@@ -41,8 +41,8 @@ pub fn onward(head: Head, ground: &[u8], learned: &[u16], link: &mut [u8]) -> Mo
 
 // Move, which is a word of the language: the cart goes one step along its route.
 pub fn advance(head: Head, ground: &[u8], learned: &[u16], link: &mut [u8]) -> Moved
-    ensures { after result (lent_after ground learned link)
-        ≡ moved head (lent_before ground learned link) }
+    ensures { after result (lent_with ground.now learned.now link.new)
+        ≡ moved head (lent_with ground.now learned.now link.old) }
 {
     let verdict = acceptance(head, ground, learned, link);
     if let Verdict::Refused(why) = verdict {

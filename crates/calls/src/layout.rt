@@ -2,7 +2,7 @@
 ghost use Rattle.std.specs.Prelude.{◌≡◌, false, ◌+◌, ◌<◌, ◌≤◌, length};
 ghost use Rattle.model.specs.Lists.{filled};
 ghost use Rattle.model.specs.Plot.{bad_sides, cells, gap, distance};
-ghost use Rattle.model.specs.Lent.{after, lent_now, lent_before, lent_after};
+ghost use Rattle.model.specs.Lent.{after, lent_with};
 ghost use Rattle.model.specs.Layout.{layout_check, laid_out};
 ghost use Rattle.model.specs.declared.Verdict.TheVariants.{Accepted};
 ghost use Rattle.calls.specs.Rows.{row_filled};
@@ -57,8 +57,8 @@ pub fn lay_out(
     learned: &mut [u16],
     link: &mut [u8],
 ) -> Changed
-    requires { layout_check width height start goal (lent_now ground learned link) ≡ Accepted }
-    ensures { after result (lent_after ground learned link) ≡ laid_out width height start goal (lent_before ground learned link) }
+    requires { layout_check width height start goal (lent_with ground.old learned.old link.old) ≡ Accepted }
+    ensures { after result (lent_with ground.new learned.new link.new) ≡ laid_out width height start goal (lent_with ground.old learned.old link.old) }
 {
     let n = width * height;
     clear(ground, n);
@@ -80,8 +80,8 @@ pub fn layout(
     learned: &mut [u16],
     link: &mut [u8],
 ) -> Changed
-    ensures { after result (lent_after ground learned link)
-        ≡ laid_out width height start goal (lent_before ground learned link) }
+    ensures { after result (lent_with ground.new learned.new link.new)
+        ≡ laid_out width height start goal (lent_with ground.old learned.old link.old) }
 {
     let verdict = layout_check(width, height, start, goal, ground, learned, link);
     if let Verdict::Refused(why) = verdict {

@@ -1,6 +1,6 @@
 // List the route, and its question. The data are tested first, then the route and the buffer.
 ghost use Rattle.std.specs.Prelude.{◌≡◌};
-ghost use Rattle.model.specs.Lent.{fronted, lent_now, lent_before};
+ghost use Rattle.model.specs.Lent.{fronted, lent_with};
 ghost use Rattle.model.specs.Route.{cells_from};
 ghost use Rattle.model.specs.Listing.{list_check, listed, list_question};
 ghost use Rattle.model.specs.Ways.{Accepts};
@@ -15,8 +15,8 @@ use model::{Head, Reason, Verdict};
 
 // Whether list is refused: the buffer is asked after the route. (The ground is lent for the contract alone, here and below.)
 fn list_rest(head: Head, ground: &[u8], learned: &[u16], link: &[u8], buffer: &[u16]) -> Verdict
-    requires { Accepts head (lent_now ground learned link) }
-    ensures { result ≡ list_check head (lent_before ground learned link) buffer.now }
+    requires { Accepts head (lent_with ground.now learned.now link.now) }
+    ensures { result ≡ list_check head (lent_with ground.now learned.now link.now) buffer.now }
 {
     let cell = head.cell;
     let steps = learned[cell] as usize;
@@ -54,8 +54,8 @@ pub fn fill_route(
     link: &[u8],
     buffer: &mut [u16],
 ) -> usize
-    requires { list_check head (lent_now ground learned link) buffer.old ≡ Accepted }
-    ensures { RouteFilled head (lent_before ground learned link) buffer.old result buffer.new }
+    requires { list_check head (lent_with ground.now learned.now link.now) buffer.old ≡ Accepted }
+    ensures { RouteFilled head (lent_with ground.now learned.now link.now) buffer.old result buffer.new }
 {
     let cell = head.cell;
     let steps = learned[cell] as usize;
@@ -65,7 +65,7 @@ pub fn fill_route(
 
 // Whether list is refused, and why.
 fn list_check(head: Head, ground: &[u8], learned: &[u16], link: &[u8], buffer: &[u16]) -> Verdict
-    ensures { result ≡ list_check head (lent_before ground learned link) buffer.now }
+    ensures { result ≡ list_check head (lent_with ground.now learned.now link.now) buffer.now }
 {
     let verdict = acceptance(head, ground, learned, link);
     if let Verdict::Refused(why) = verdict {
@@ -82,7 +82,7 @@ pub fn list_question(
     link: &[u8],
     buffer: &[u16],
 ) -> usize
-    ensures { result ≡ list_question head (lent_before ground learned link) buffer.now }
+    ensures { result ≡ list_question head (lent_with ground.now learned.now link.now) buffer.now }
 {
     let verdict = list_check(head, ground, learned, link, buffer);
     match verdict {
@@ -99,7 +99,7 @@ pub fn list_count(
     link: &[u8],
     buffer: &mut [u16],
 ) -> usize
-    ensures { Counted head (lent_before ground learned link) buffer.old result buffer.new }
+    ensures { Counted head (lent_with ground.now learned.now link.now) buffer.old result buffer.new }
 {
     let verdict = list_check(head, ground, learned, link, &buffer[..]);
     if let Verdict::Refused(_) = verdict {
@@ -117,7 +117,7 @@ pub fn list<'a>(
     link: &[u8],
     buffer: &'a mut [u16],
 ) -> &'a mut [u16]
-    ensures { (result.now ≡ (listed head (lent_before ground learned link) buffer.old).front) × (result.ref_ptr ≡ buffer.entry.ref_ptr) }
+    ensures { (result.now ≡ (listed head (lent_with ground.now learned.now link.now) buffer.old).front) × (result.ref_ptr ≡ buffer.entry.ref_ptr) }
 {
     let count = list_count(head, ground, learned, link, buffer);
     &mut buffer[..count]

@@ -1,6 +1,6 @@
 // Plan: the tests, and then the core in crate `replan`.
 ghost use Rattle.std.specs.Prelude.{◌≡◌};
-ghost use Rattle.model.specs.Lent.{lent_before, lent_after, scratch_before, scratch_after};
+ghost use Rattle.model.specs.Lent.{lent_with, scratch_with};
 ghost use Rattle.model.specs.Plan.{after_plan, planned};
 
 use checks::plan_check;
@@ -17,10 +17,10 @@ pub fn plan(
     cost: &mut [u16],
     trail: &mut [u8],
 ) -> Planned
-    ensures { after_plan result (lent_after ground learned link)
-        (scratch_after mark cost trail)
-        ≡ planned head (lent_before ground learned link)
-        (scratch_before mark cost trail) }
+    ensures { after_plan result (lent_with ground.now learned.new link.new)
+        (scratch_with mark.new cost.new trail.new)
+        ≡ planned head (lent_with ground.now learned.old link.old)
+        (scratch_with mark.old cost.old trail.old) }
 {
     let verdict = plan_check(head, ground, learned, link, mark, cost, trail);
     if let Verdict::Refused(why) = verdict {

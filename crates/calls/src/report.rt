@@ -1,7 +1,7 @@
 // Report: a cell is blocked. Its link goes, and so does each neighbour's that pointed to it.
 ghost use Rattle.std.specs.Prelude.{◌≡◌, false, ◌+◌, ◌<◌, ◌≤◌, length};
 ghost use Rattle.model.specs.Plot.{bad_sides, cells};
-ghost use Rattle.model.specs.Lent.{after, lent_now, lent_before, lent_after};
+ghost use Rattle.model.specs.Lent.{after, lent_with};
 ghost use Rattle.model.specs.Report.{report_check, unlinked, reported};
 ghost use Rattle.model.specs.declared.Verdict.TheVariants.{Accepted};
 ghost use Rattle.calls.specs.Cuts.{cut_at};
@@ -43,8 +43,8 @@ fn unlink(link: &mut [u8], width: usize, height: usize, c: usize)
 // A report that is accepted: a free cell is blocked, and a cell known blocked changes nothing. Learned values stay, and are
 // handed in for the contract alone.
 pub fn block(head: Head, ground: &mut [u8], learned: &[u16], link: &mut [u8], c: usize) -> Changed
-    requires { report_check head (lent_now ground learned link) c ≡ Accepted }
-    ensures { after result (lent_after ground learned link) ≡ reported head (lent_before ground learned link) c }
+    requires { report_check head (lent_with ground.old learned.now link.old) c ≡ Accepted }
+    ensures { after result (lent_with ground.new learned.now link.new) ≡ reported head (lent_with ground.old learned.now link.old) c }
 {
     if ground[c] == 0 {
         ground[c] = 1;
@@ -58,8 +58,8 @@ pub fn block(head: Head, ground: &mut [u8], learned: &[u16], link: &mut [u8], c:
 
 // Report: cell c is blocked.
 pub fn report(head: Head, ground: &mut [u8], learned: &[u16], link: &mut [u8], c: usize) -> Changed
-    ensures { after result (lent_after ground learned link)
-        ≡ reported head (lent_before ground learned link) c }
+    ensures { after result (lent_with ground.new learned.now link.new)
+        ≡ reported head (lent_with ground.old learned.now link.old) c }
 {
     let verdict = report_check(head, ground, learned, link, c);
     if let Verdict::Refused(why) = verdict {

@@ -2,7 +2,7 @@
 // is lent the part that begins where the field begins. That the tests are document 01's form is `formed_is` in proofs/form/FormIs.
 ghost use Rattle.std.specs.Prelude.{◌≡◌, ◌≤◌, length};
 ghost use Rattle.model.specs.Plot.{max_cells};
-ghost use Rattle.model.specs.Lent.{lent_now, lent_before, lent_after};
+ghost use Rattle.model.specs.Lent.{lent_with};
 ghost use Rattle.model.specs.Fit.{Room};
 ghost use Rattle.model.specs.Record.{ground_at, record_length, head_of, read_into};
 ghost use Rattle.record.specs.Form.{sides_test, rest_test, form_check};
@@ -55,9 +55,9 @@ pub fn head_of(bytes: &[u8]) -> Head
 
 // The first n entries of ground, learned and link, out of a record of n cells.
 pub fn read_into(bytes: &[u8], n: usize, ground: &mut [u8], learned: &mut [u16], link: &mut [u8])
-    requires { (n ≤ max_cells) × (length bytes.now ≡ record_length n) × Room n (lent_now ground learned link) }
-    ensures { lent_after ground learned link
-        ≡ read_into n bytes.now (lent_before ground learned link) }
+    requires { (n ≤ max_cells) × (length bytes.now ≡ record_length n) × Room n (lent_with ground.old learned.old link.old) }
+    ensures { lent_with ground.new learned.new link.new
+        ≡ read_into n bytes.now (lent_with ground.old learned.old link.old) }
 {
     let at_learned = learned_at(n);
     let at_link = link_at(n);

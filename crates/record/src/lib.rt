@@ -1,5 +1,8 @@
 // The record of a state. `save` writes it, `load` reads it; `form` tells whether bytes are one, `fields` reads a field, and
 // `places` says where each field begins.
+
+#![tactic(auto)]
+
 mod fields;
 pub mod form;
 pub mod load;

@@ -1,7 +1,7 @@
 // Load: the state that a record holds. `load` checks all before it writes; `unpack` is for lists that are the caller's own to spoil.
 ghost use Rattle.std.specs.Prelude.{◌≡◌};
 ghost use Rattle.model.specs.Plot.{max_cells};
-ghost use Rattle.model.specs.Lent.{after, lent_now, lent_before, lent_after};
+ghost use Rattle.model.specs.Lent.{after, lent_with};
 ghost use Rattle.model.specs.Head.{no_head, cells_of};
 ghost use Rattle.model.specs.Fit.{Room};
 ghost use Rattle.model.specs.Sound.{sound};
@@ -55,11 +55,11 @@ fn read_sound(
     learned: &mut [u16],
     link: &mut [u8],
 ) -> bool
-    requires { Opened head bytes.now × Room (cells_of head) (lent_now ground learned link) }
-    ensures { (lent_after ground learned link
-        ≡ read_into (cells_of head) bytes.now (lent_before ground learned link))
+    requires { Opened head bytes.now × Room (cells_of head) (lent_with ground.old learned.old link.old) }
+    ensures { (lent_with ground.new learned.new link.new
+        ≡ read_into (cells_of head) bytes.now (lent_with ground.old learned.old link.old))
         × (result ≡ sound head
-        (read_into (cells_of head) bytes.now (lent_before ground learned link))) }
+        (read_into (cells_of head) bytes.now (lent_with ground.old learned.old link.old))) }
 {
     read_into(bytes, head.width * head.height, ground, learned, link);
     sound(head, ground, learned, link)
@@ -79,7 +79,7 @@ fn holds_sound(bytes: &[u8], head: Head) -> bool
 // What load answers.
 fn load_answer(bytes: &[u8], ground: &[u8], learned: &[u16], link: &[u8]) -> Changed
     ensures { result ≡ answered bytes.now
-        (load_check bytes.now (lent_before ground learned link)) }
+        (load_check bytes.now (lent_with ground.now learned.now link.now)) }
 {
     let opened = open_record(bytes);
     let verdict = opened.verdict;
@@ -105,8 +105,8 @@ fn load_answer(bytes: &[u8], ground: &[u8], learned: &[u16], link: &[u8]) -> Cha
 
 // Load.
 pub fn load(bytes: &[u8], ground: &mut [u8], learned: &mut [u16], link: &mut [u8]) -> Changed
-    ensures { after result (lent_after ground learned link)
-        ≡ loaded bytes.now (lent_before ground learned link) }
+    ensures { after result (lent_with ground.new learned.new link.new)
+        ≡ loaded bytes.now (lent_with ground.old learned.old link.old) }
 {
     let answer = load_answer(bytes, ground, learned, link);
     let verdict = answer.verdict;
@@ -122,9 +122,9 @@ pub fn load(bytes: &[u8], ground: &mut [u8], learned: &mut [u16], link: &mut [u8
 // Load's answer, and its state once accepted, into lists with room for every plot: the record is read once. What a refusal leaves
 // in the lists is not said.
 pub fn unpack(bytes: &[u8], ground: &mut [u8], learned: &mut [u16], link: &mut [u8]) -> Changed
-    requires { Room max_cells (lent_now ground learned link) }
-    ensures { Unpacked bytes.now (lent_before ground learned link)
-        result (lent_after ground learned link) }
+    requires { Room max_cells (lent_with ground.old learned.old link.old) }
+    ensures { Unpacked bytes.now (lent_with ground.old learned.old link.old)
+        result (lent_with ground.new learned.new link.new) }
 {
     let opened = open_record(bytes);
     let verdict = opened.verdict;

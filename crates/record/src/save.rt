@@ -2,7 +2,7 @@
 // where the field begins, and touches no byte after the field.
 ghost use Rattle.std.specs.Prelude.{◌≡◌, [], ◌∷◌, ◌+◌, ◌*◌, ◌-◌, ◌<◌, ◌≤◌, min, length, take};
 ghost use Rattle.model.specs.Lists.{gathered};
-ghost use Rattle.model.specs.Lent.{fronted, lent_now, lent_before};
+ghost use Rattle.model.specs.Lent.{fronted, lent_with};
 ghost use Rattle.model.specs.Record.{big, field, ground_size, low_bits, ground_byte, learned_bytes, record_of};
 ghost use Rattle.model.specs.Store.{after_save, save_check, saved};
 ghost use Rattle.model.specs.declared.Verdict.TheVariants.{Accepted};
@@ -159,8 +159,8 @@ fn put_head(head: Head, buffer: &mut [u8])
 
 // The record of accepted data, into a buffer with room for it. It is save's core, and no entry point.
 pub fn write_record(head: Head, ground: &[u8], learned: &[u16], link: &[u8], buffer: &mut [u8])
-    requires { save_check head (lent_now ground learned link) buffer.old ≡ Accepted }
-    ensures { buffer.new ≡ fronted (record_of head (lent_before ground learned link))
+    requires { save_check head (lent_with ground.now learned.now link.now) buffer.old ≡ Accepted }
+    ensures { buffer.new ≡ fronted (record_of head (lent_with ground.now learned.now link.now))
         buffer.old }
 {
     let n = head.width * head.height;
@@ -174,7 +174,7 @@ pub fn write_record(head: Head, ground: &[u8], learned: &[u16], link: &[u8], buf
 
 // Whether save is refused: the buffer is asked after the data.
 fn save_check(head: Head, ground: &[u8], learned: &[u16], link: &[u8], buffer: &[u8]) -> Verdict
-    ensures { result ≡ save_check head (lent_before ground learned link) buffer.now }
+    ensures { result ≡ save_check head (lent_with ground.now learned.now link.now) buffer.now }
 {
     let verdict = acceptance(head, ground, learned, link);
     if let Verdict::Refused(why) = verdict {
@@ -188,7 +188,7 @@ fn save_check(head: Head, ground: &[u8], learned: &[u16], link: &[u8], buffer: &
 
 // Save: the record's length for an answer. A refusal writes nothing.
 pub fn save(head: Head, ground: &[u8], learned: &[u16], link: &[u8], buffer: &mut [u8]) -> Saved
-    ensures { after_save result buffer.new ≡ saved head (lent_before ground learned link)
+    ensures { after_save result buffer.new ≡ saved head (lent_with ground.now learned.now link.now)
         buffer.old }
 {
     let verdict = save_check(head, ground, learned, link, &buffer[..]);

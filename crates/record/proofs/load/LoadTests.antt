@@ -6,24 +6,22 @@ use mathlib.Core.List.{List}
 use Prim.Native.Nat.{ℕ, ◌<◌}
 use borrow.Author.Tests.{not-false}
 use lib.ListN.{get_or}
-use Rattle.model.specs.Plot.{max_cells, bad_sides}
-use Rattle.model.specs.Lent.{Lent, buffers_of}
+use Rattle.model.specs.Plot.{bad_sides}
+use Rattle.model.specs.Lent.{Lent}
 use Rattle.model.specs.Head.{cells_of, cells_named}
 use Rattle.model.specs.Sound.{sound}
-use Rattle.model.specs.Refusals.{refuse_if, and_then, any_short, any_outside}
+use Rattle.model.specs.Refusals.{refuse_if, and_then, any_outside}
 use Rattle.model.specs.Record.{head_of, read_into, sides_formed, formed}
 use Rattle.model.specs.Store.{load_check}
 use Rattle.model.specs.declared.Head.{Head}
 use Rattle.model.specs.declared.Reason.{Reason}
-use Rattle.model.specs.declared.Reason.TheVariants.{Sides, Short, Outside, Unsound, Form}
+use Rattle.model.specs.declared.Reason.TheVariants.{Sides, Outside, Form}
 use Rattle.model.specs.declared.Verdict.{Verdict}
 use Rattle.model.specs.declared.Verdict.TheVariants.{Accepted}
 use Rattle.model.specs.Fit.{Room, Placed}
 use Rattle.model.proofs.Calls.Soundness.{sound_fit, fit_sound}
-use Rattle.model.proofs.Calls.Acceptance.{cells_few, room_lent, both_on, place}
 use Rattle.model.proofs.Calls.FirstEntries.{SameEntries, fit_same}
 use Rattle.model.proofs.Record.RecordFields.{read_same}
-use Rattle.model.proofs.Record.RecordLaws.{room_for_law}
 use Rattle.model.proofs.Lists.Scans.{same_test}
 use Rattle.record.specs.Form.{sides_test, rest_test, fields_formed, form_check}
 use Rattle.record.specs.Load.{open_check, state_check}

@@ -1,0 +1,7 @@
+-- `calls::layout::layout` meets its contract: refused, or what its core does. Assumes nothing.
+use Rattle.calls.proofs.RefusedCases.{layout_refused}
+use Rattle.calls.proofs.layout.layout.Goals as goal
+
+pub returns-in-Refused : goal.returns-in-Refused
+returns-in-Refused c =
+    rw c.none.ensures (layout_refused c.in-Refused.is _ _ _ _ _ c.layout_check-verdict.ensures)

@@ -1,0 +1,12 @@
+-- `record::fields::read_links` meets its contract: before each iteration the first `c` entries are those of the part (`FillLoop`). Assumes nothing.
+use Rattle.model.proofs.Lists.FillLoop.{fill_begin, fill_next}
+use Rattle.record.specs.Cells.{byte_at}
+use native.Mathlib.Omega.{arith}
+use Rattle.record.proofs.fields.read_links.Goals as goal
+
+pub loop-c-init : goal.loop-c-init
+loop-c-init c = (omega arith, fill_begin (byte_at _) _)
+
+pub loop-c-preserved : goal.loop-c-preserved
+unfolding byte_at
+loop-c-preserved c = (omega arith, fill_next _ c.loop-c.invariant.1 c.byte_of.ensures)
