@@ -1,7 +1,7 @@
 // The calls over buffers that a host keeps itself, with the head in an array of five entries (specs/Buffers). Each is the call
 // of its name, with the head read before and written after; a refusal writes nothing, not there either.
 ghost use Rattle.std.specs.Prelude.{◌≡◌};
-ghost use Rattle.model.specs.Lent.{lent_before, lent_after, scratch_before, scratch_after};
+ghost use Rattle.model.specs.Lent.{lent_with, scratch_with};
 ghost use Rattle.salenduro.specs.Buffers.{after_host, after_host_plan, after_host_fill, laid_out_host, reported_host, planned_host, moved_host};
 ghost use Rattle.salenduro.specs.Buffers.{listed_host, question_host, saved_host, loaded_host};
 
@@ -27,8 +27,8 @@ pub extern "C" fn salenduro_buffers_layout(
     learned: &mut [u16],
     link: &mut [u8],
 ) -> u32
-    ensures { after_host result head.new (lent_after ground learned link)
-        ≡ laid_out_host width height start goal head.old (lent_before ground learned link) }
+    ensures { after_host result head.new (lent_with ground.new learned.new link.new)
+        ≡ laid_out_host width height start goal head.old (lent_with ground.old learned.old link.old) }
 {
     if head.len() < HEAD_SIZE {
         return refusal(Reason::Short);
@@ -47,8 +47,8 @@ pub extern "C" fn salenduro_buffers_report(
     link: &mut [u8],
     cell: usize,
 ) -> u32
-    ensures { after_host result head.now (lent_after ground learned link)
-        ≡ reported_host head.now (lent_before ground learned link) cell }
+    ensures { after_host result head.now (lent_with ground.new learned.now link.new)
+        ≡ reported_host head.now (lent_with ground.old learned.now link.old) cell }
 {
     if head.len() < HEAD_SIZE {
         return refusal(Reason::Short);
@@ -68,10 +68,10 @@ pub extern "C" fn salenduro_buffers_plan(
     cost: &mut [u16],
     trail: &mut [u8],
 ) -> u32
-    ensures { after_host_plan result head.new (lent_after ground learned link)
-        (scratch_after mark cost trail)
-        ≡ planned_host head.old (lent_before ground learned link)
-        (scratch_before mark cost trail) }
+    ensures { after_host_plan result head.new (lent_with ground.now learned.new link.new)
+        (scratch_with mark.new cost.new trail.new)
+        ≡ planned_host head.old (lent_with ground.now learned.old link.old)
+        (scratch_with mark.old cost.old trail.old) }
 {
     if head.len() < HEAD_SIZE {
         return refusal(Reason::Short);
@@ -89,8 +89,8 @@ pub extern "C" fn salenduro_buffers_move(
     learned: &[u16],
     link: &mut [u8],
 ) -> u32
-    ensures { after_host result head.new (lent_after ground learned link)
-        ≡ moved_host head.old (lent_before ground learned link) }
+    ensures { after_host result head.new (lent_with ground.now learned.now link.new)
+        ≡ moved_host head.old (lent_with ground.now learned.now link.old) }
 {
     if head.len() < HEAD_SIZE {
         return refusal(Reason::Short);
@@ -110,7 +110,7 @@ pub extern "C" fn salenduro_buffers_question(
     link: &[u8],
     list: &[u16],
 ) -> u32
-    ensures { result ≡ question_host head.now (lent_before ground learned link) list.now }
+    ensures { result ≡ question_host head.now (lent_with ground.now learned.now link.now) list.now }
 {
     if head.len() < HEAD_SIZE {
         return 2;
@@ -128,7 +128,7 @@ pub extern "C" fn salenduro_buffers_list(
     list: &mut [u16],
 ) -> u32
     ensures { after_host_fill result list.new
-        ≡ listed_host head.now (lent_before ground learned link) list.old }
+        ≡ listed_host head.now (lent_with ground.now learned.now link.now) list.old }
 {
     let number = salenduro_buffers_question(head, ground, learned, link, &list[..]);
     if number != 0 {
@@ -146,7 +146,7 @@ pub extern "C" fn salenduro_buffers_save(
     bytes: &mut [u8],
 ) -> u32
     ensures { after_host_fill result bytes.new
-        ≡ saved_host head.now (lent_before ground learned link) bytes.old }
+        ≡ saved_host head.now (lent_with ground.now learned.now link.now) bytes.old }
 {
     if head.len() < HEAD_SIZE {
         return refusal(Reason::Short);
@@ -164,8 +164,8 @@ pub extern "C" fn salenduro_buffers_load(
     learned: &mut [u16],
     link: &mut [u8],
 ) -> u32
-    ensures { after_host result head.new (lent_after ground learned link)
-        ≡ loaded_host bytes.now head.old (lent_before ground learned link) }
+    ensures { after_host result head.new (lent_with ground.new learned.new link.new)
+        ≡ loaded_host bytes.now head.old (lent_with ground.old learned.old link.old) }
 {
     if head.len() < HEAD_SIZE {
         return refusal(Reason::Short);

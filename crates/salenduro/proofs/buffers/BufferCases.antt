@@ -2,14 +2,14 @@
 -- and the head array set. Every number fits 32 bits. Assumes nothing.
 use mathlib.Core.Path.{◌≡◌, refl, sym, ap, ◌∙◌}
 use mathlib.Core.Bool.{Bool, true, false}
-use mathlib.Core.List.{List, [], ◌∷◌}
+use mathlib.Core.List.{List}
 use mathlib.Core.Logic.{◌≢◌}
 use Prim.Native.Nat.{ℕ, ◌+◌, ◌≤◌, ◌<◌}
 use native.Mathlib.Omega.{arith}
 use borrow.Author.Tests.{lt-ltb, le-ltb, ltb-true, ltb-false}
-use lib.ListN.{length, set}
+use lib.ListN.{length}
 use Rattle.model.specs.Numbers.{reason_number, verdict_number, refusal, changed_answer, plan_answer, move_answer, save_answer}
-use Rattle.model.specs.Lent.{Lent, Scratch, fronted, After, after}
+use Rattle.model.specs.Lent.{Lent, Scratch, After, after}
 use Rattle.model.specs.Refusals.{too_short}
 use Rattle.model.specs.Report.{reported}
 use Rattle.model.specs.Plan.{after_plan, planned}

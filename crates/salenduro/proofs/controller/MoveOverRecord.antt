@@ -9,10 +9,10 @@ use Rattle.model.specs.Lent.{Lent, fronted, After, after}
 use Rattle.model.specs.Head.{cells_of}
 use Rattle.model.specs.Numbers.{step_verdict, refusal, move_answer}
 use Rattle.model.specs.Record.{record_length, record_of}
-use Rattle.model.specs.Store.{load_check, save_check}
+use Rattle.model.specs.Store.{save_check}
 use Rattle.model.specs.Move.{moved}
 use Rattle.model.specs.Ways.{Accepts}
-use Rattle.model.specs.Controller.{own_room, after_c, moved_c}
+use Rattle.model.specs.Controller.{after_c, moved_c}
 use Rattle.model.specs.declared.Head.{Head}
 use Rattle.model.specs.declared.Reason.{Reason}
 use Rattle.model.specs.declared.Verdict.{Verdict}

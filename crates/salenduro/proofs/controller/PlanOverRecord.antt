@@ -10,15 +10,14 @@ use lib.ListN.{length, length-replicate}
 use Rattle.model.specs.Plot.{max_cells}
 use Rattle.model.specs.Lent.{Lent, Scratch, fronted, buffers_of, scratch_buffers}
 use Rattle.model.specs.Head.{cells_of}
-use Rattle.model.specs.Numbers.{outcome_verdict, refusal, plan_answer}
+use Rattle.model.specs.Numbers.{outcome_verdict, plan_answer}
 use Rattle.model.specs.Refusals.{any_short}
 use Rattle.model.specs.Record.{record_of, head_of}
-use Rattle.model.specs.Store.{load_check, save_check}
+use Rattle.model.specs.Store.{save_check}
 use Rattle.model.specs.Plan.{AfterPlan, after_plan, plan_check, planned}
-use Rattle.model.specs.Controller.{own_room, own_scratch, AfterC, after_c, state_in, planned_c}
+use Rattle.model.specs.Controller.{own_scratch, AfterC, after_c, state_in, planned_c}
 use Rattle.model.specs.declared.Head.{Head}
-use Rattle.model.specs.declared.Reason.{Reason}
-use Rattle.model.specs.declared.Verdict.TheVariants.{Accepted, Refused}
+use Rattle.model.specs.declared.Verdict.TheVariants.{Accepted}
 use Rattle.model.specs.declared.Planned.{Planned}
 use Rattle.model.specs.declared.Outcome.{Outcome}
 use Rattle.model.specs.Fit.{Held}

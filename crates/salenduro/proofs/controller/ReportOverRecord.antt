@@ -6,9 +6,9 @@ use Prim.Native.Nat.{ℕ}
 use Rattle.model.specs.Lent.{Lent, fronted, After, after}
 use Rattle.model.specs.Numbers.{refusal, changed_answer}
 use Rattle.model.specs.Record.{record_of, head_of}
-use Rattle.model.specs.Store.{load_check, save_check}
+use Rattle.model.specs.Store.{save_check}
 use Rattle.model.specs.Report.{report_check, reported}
-use Rattle.model.specs.Controller.{own_room, after_c, state_in, reported_c}
+use Rattle.model.specs.Controller.{after_c, state_in, reported_c}
 use Rattle.model.specs.declared.Head.{Head}
 use Rattle.model.specs.declared.Reason.{Reason}
 use Rattle.model.specs.declared.Verdict.{Verdict}

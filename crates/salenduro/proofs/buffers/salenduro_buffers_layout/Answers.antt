@@ -1,0 +1,16 @@
+-- `salenduro_buffers_layout` meets its contract: a short head array, or what the call answers (`BufferCases`). Assumes nothing.
+use Rattle.salenduro.proofs.buffers.BufferCases.{host_short, headed_called}
+use Rattle.salenduro.specs.Buffers.{laid_out_host}
+use native.Mathlib.Omega.{arith}
+use Rattle.salenduro.proofs.buffers.salenduro_buffers_layout.Goals as goal
+
+pub returns-then-head-lt-HEAD_SIZE : goal.returns-then-head-lt-HEAD_SIZE
+unfolding laid_out_host
+returns-then-head-lt-HEAD_SIZE c = host_short _ _ c.refusal.ensures (omega arith) _
+
+pub returns : goal.returns
+unfolding laid_out_host
+returns c =
+    headed_called _ _ _ c.if-head-lt-HEAD_SIZE.false c.layout-changed.ensures
+    c.set_head.ensures
+    c.changed_answer.ensures
