@@ -1,5 +1,8 @@
 // The drawing of a plot: whether some bytes are one, and what it shows. A drawing is read loosely, and written out again as it
 // must look; the bytes are a drawing where the two are the same.
+
+#![tactic(auto)]
+
 pub mod text;
 
 ghost use Rattle.std.specs.Prelude.{◌≡◌, true, ◌<◌, ◌≤◌, ◌*◌, length};
@@ -12,21 +15,21 @@ use crate::text::is_text;
 use model::Head;
 
 // The plot with the cart on the start, or "bad input".
-#[derive(Drop)]
+#[derive(Clone, Copy)]
 pub enum Drawn {
     Plot(Head),
     Bad,
 }
 
 // A number that was read, and the place behind it and one character more.
-#[derive(Drop)]
+#[derive(Clone, Copy)]
 struct Figure {
     value: usize,
     next: usize,
 }
 
 // The numbers of the first line, and the place of the first row.
-#[derive(Drop)]
+#[derive(Clone, Copy)]
 struct FirstLine {
     head: Head,
     rows: usize,

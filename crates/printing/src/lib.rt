@@ -1,5 +1,8 @@
 // Text written into lent bytes from a place on: the bytes before the place stay, and so do those behind the text. Each function
 // answers the place behind what it wrote. `lines` has the lines that a drive prints.
+
+#![tactic(auto)]
+
 pub mod lines;
 
 ghost use Rattle.std.specs.Prelude.{◌+◌, ◌<◌, ◌≤◌, [], ◌∷◌, length};

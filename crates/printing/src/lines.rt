@@ -5,7 +5,7 @@ ghost use Rattle.printing.specs.Lines.{is_last, longest_line, line_text};
 
 use crate::{put_number, put_words};
 
-#[derive(Drop)]
+#[derive(Clone, Copy)]
 pub enum Line {
     Blocked(usize),
     Plan { length: usize, expanded: usize },

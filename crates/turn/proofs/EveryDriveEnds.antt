@@ -11,11 +11,11 @@ use borrow.Author.Tests.{ltb-true, eqb-false}
 use lib.Dec.{ltb, eqb}
 use lib.ListN.{get_or}
 use Rattle.model.specs.Lists.{tally}
-use Rattle.model.specs.Plot.{cells, ahead, free}
+use Rattle.model.specs.Plot.{ahead, free}
 use Rattle.model.specs.Lent.{Lent, Scratch, After}
 use Rattle.model.specs.Head.{cells_of}
 use Rattle.model.specs.Route.{stands}
-use Rattle.model.specs.Report.{report_check, blocked, reported}
+use Rattle.model.specs.Report.{report_check, reported}
 use Rattle.model.specs.Plan.{AfterPlan, planned}
 use Rattle.model.specs.declared.Head.{Head}
 use Rattle.model.specs.declared.Moved.{Moved}

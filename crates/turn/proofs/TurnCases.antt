@@ -32,7 +32,7 @@ use Rattle.model.proofs.Calls.ReportsCommute.{report_keeps}
 use Rattle.model.proofs.Calls.PlanKeeps.{plan_keeps}
 use Rattle.model.proofs.Calls.MoveLaws.{Moving, move_refused, move_there, move_lost, move_went, move_is}
 use Rattle.replan.specs.Passed.{Passed}
-use Rattle.turn.specs.Turn.{Drive, says, sighting, after_plan, plan_line, turn, drive_with}
+use Rattle.turn.specs.Turn.{Drive, says, sighting, plan_line, turn, drive_with}
 use Rattle.turn.specs.Sighting.{InSight}
 use Rattle.printing.specs.declared.lines.Line.{Line}
 use Rattle.turn.proofs.EveryDriveEnds.{InOrder, sees}

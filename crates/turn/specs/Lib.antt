@@ -1,4 +1,4 @@
--- A turn of the drive, what a sighting asks for, and document 01's example.
+-- A turn of the drive, what a sighting asks for, and what document 01's example is computed of.
 pub mod Turn
 pub mod Sighting
 pub mod Example

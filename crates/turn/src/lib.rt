@@ -1,8 +1,11 @@
 // The turn of the drive over a drawn plot (look, report, end, move, plan), which says one line. That every drive ends is
 // `turn_falls` in proofs/EveryDriveEnds.
+
+#![tactic(auto)]
+
 ghost use Rattle.std.specs.Prelude.{◌≡◌, ◌<◌, ◌≤◌, length};
 ghost use Rattle.model.specs.Head.{cells_of};
-ghost use Rattle.model.specs.Lent.{lent_now, lent_before, lent_after, scratch_now, scratch_before, scratch_after};
+ghost use Rattle.model.specs.Lent.{lent_with, scratch_with};
 ghost use Rattle.replan.specs.Passed.{Planable};
 ghost use Rattle.turn.specs.Turn.{unknown_ahead, sighting, plan_line, drive_with, said_with, turn};
 ghost use Rattle.turn.specs.Sighting.{InSight};
@@ -15,7 +18,7 @@ use printing::lines::Line;
 use replan::replan_with;
 
 // A line, and the head and the number of moves after it.
-#[derive(Drop)]
+#[derive(Clone, Copy)]
 pub struct TurnEnd {
     pub head: Head,
     pub line: Line,
@@ -91,10 +94,10 @@ pub fn turn(
     gone: &mut [u8],
     list: &mut [u16],
 ) -> TurnEnd
-    requires { Planable head (lent_now ground learned link) (scratch_now mark cost trail) heap.old place.old gone.old list.old
+    requires { Planable head (lent_with ground.old learned.old link.old) (scratch_with mark.old cost.old trail.old) heap.old place.old gone.old list.old
         × (cells_of head ≤ length truth.now) × (moves < 18446744073709551615) }
-    ensures { said_with result (lent_after ground learned link) (scratch_after mark cost trail)
-        ≡ turn truth.now (drive_with head (lent_before ground learned link) (scratch_before mark cost trail) moves) }
+    ensures { said_with result (lent_with ground.new learned.new link.new) (scratch_with mark.new cost.new trail.new)
+        ≡ turn truth.now (drive_with head (lent_with ground.old learned.old link.old) (scratch_with mark.old cost.old trail.old) moves) }
 {
     let n = head.width * head.height;
     let c = sighting(head, n, truth, ground);
