@@ -1,7 +1,10 @@
 // Drives a cart over a drawn plot: reads the drawing from standard input, and writes what the drive says, line by line.
-ghost use Rattle.std.specs.Prelude.{◌≡◌, ◌+◌, ◌<◌, ◌≤◌, length};
+
+#![tactic(auto)]
+
+ghost use Rattle.std.specs.Prelude.{◌≡◌, ◌+◌, ◌<◌, ◌≤◌, length, IfOk};
 ghost use Rattle.model.specs.Plot.{max_cells};
-ghost use Rattle.model.specs.Lent.{lent_now, scratch_now};
+ghost use Rattle.model.specs.Lent.{lent_with, scratch_with};
 ghost use Rattle.model.specs.Plan.{plan_check};
 ghost use Rattle.model.specs.declared.Verdict.TheVariants.{Accepted};
 ghost use Rattle.printing.specs.Lines.{longest_line};
@@ -12,6 +15,8 @@ use drawing::text::ROWS;
 use drawing::{Drawn, read};
 use model::{Head, Verdict};
 use printing::lines::{LONGEST_LINE, is_last, put_line};
+use reading::read_full;
+use std::io;
 use turn::turn;
 
 // The longest drawing: "64 64 4095 4095" and a line feed, and the rows.
@@ -21,19 +26,20 @@ const LONGEST: usize = 16 + ROWS;
 const WAITING: usize = 8192;
 
 // Writes the first bytes where there may be no room for one more line, and answers how many wait then.
-fn flush(out: &[u8], waiting: usize) -> usize
+fn flush(rt: &impl Print, out: &[u8], waiting: usize) -> io::Result<usize>
     requires { (waiting ≤ length out.now) × (longest_line ≤ length out.now) }
-    ensures { result + longest_line ≤ length out.now }
+    ensures { IfOk result (λ waits. waits + longest_line ≤ length out.now) }
 {
     if out.len() - LONGEST_LINE < waiting {
-        io::write_all(1, &out[..waiting]);
-        return 0;
+        rt.write_all(&out[..waiting])?;
+        return Ok(0);
     }
-    waiting
+    Ok(waiting)
 }
 
 // Turn by turn, until a line is the last one. The data were accepted, and stay so.
 fn tell(
+    rt: &impl Print,
     head: Head,
     truth: &[u8],
     ground: &mut [u8],
@@ -42,8 +48,8 @@ fn tell(
     mark: &mut [u8],
     cost: &mut [u16],
     trail: &mut [u8],
-)
-    requires { (plan_check head (lent_now ground learned link) (scratch_now mark cost trail) ≡ Accepted)
+) -> io::Result<()>
+    requires { (plan_check head (lent_with ground.old learned.old link.old) (scratch_with mark.old cost.old trail.old) ≡ Accepted)
         × (max_cells ≤ length truth.now) }
 {
     let mut heap = [0u64; queue::ROOM];
@@ -62,16 +68,16 @@ fn tell(
         );
         let line = said.line;
         waiting = put_line(&mut out, waiting, line);
-        waiting = flush(&out, waiting);
+        waiting = flush(rt, &out, waiting)?;
         now = said.head;
         moves = said.moves;
         going = !is_last(line);
     }
-    io::write_all(1, &out[..waiting]);
+    rt.write_all(&out[..waiting])
 }
 
 // A cart that knows nothing of the ground: soundness is tested once, and then the cores are used.
-fn drive(head: Head, truth: &[u8])
+fn drive(rt: &impl Print, head: Head, truth: &[u8]) -> io::Result<()>
     requires { max_cells ≤ length truth.now }
 {
     let mut ground = [0u8; Head::MAX_CELLS];
@@ -92,9 +98,10 @@ fn drive(head: Head, truth: &[u8])
     let first = laid.head;
     let verdict = plan_check(first, &ground, &learned, &link, &mark, &cost, &trail);
     if let Verdict::Refused(_) = verdict {
-        return;
+        return Ok(());
     }
     tell(
+        rt,
         first,
         truth,
         &mut ground,
@@ -103,19 +110,18 @@ fn drive(head: Head, truth: &[u8])
         &mut mark,
         &mut cost,
         &mut trail,
-    );
+    )
 }
 
-fn main() {
+fn main(rt: HostRuntime) -> io::Result<()> {
     let mut bytes = [0u8; LONGEST + 1];
     let mut truth = [0u8; Head::MAX_CELLS];
-    let got = io::read_full(0, &mut bytes);
+    let got = read_full(&mut rt.stdin(), &mut bytes)?;
     if got <= LONGEST {
         let drawn = read(&bytes[..got], &mut truth);
         if let Drawn::Plot(head) = drawn {
-            drive(head, &truth);
-            return;
+            return drive(&rt, head, &truth);
         }
     }
-    io::write_all(1, b"bad input\n");
+    println!(rt; "bad input")
 }

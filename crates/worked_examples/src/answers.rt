@@ -1,32 +1,33 @@
 // Printing what a call answers.
 use crate::show::{say, text};
 use model::{Outcome, Reason, Step, Verdict};
+use std::io;
 
-fn refused(why: Reason) {
-    say(b" refused", why.number());
+fn refused(rt: &impl Print, why: Reason) -> io::Result<()> {
+    say(rt, b" refused", why.number())
 }
 
-pub fn verdict(verdict: Verdict) {
+pub fn verdict(rt: &impl Print, verdict: Verdict) -> io::Result<()> {
     match verdict {
-        Verdict::Accepted => text(b" accepted"),
-        Verdict::Refused(why) => refused(why),
+        Verdict::Accepted => text(rt, b" accepted"),
+        Verdict::Refused(why) => refused(rt, why),
     }
 }
 
-pub fn outcome(outcome: Outcome) {
+pub fn outcome(rt: &impl Print, outcome: Outcome) -> io::Result<()> {
     match outcome {
-        Outcome::Route(steps) => say(b" length", steps),
-        Outcome::NoWay => text(b" no way"),
-        Outcome::Arrived => text(b" arrived"),
-        Outcome::Refused(why) => refused(why),
+        Outcome::Route(steps) => say(rt, b" length", steps),
+        Outcome::NoWay => text(rt, b" no way"),
+        Outcome::Arrived => text(rt, b" arrived"),
+        Outcome::Refused(why) => refused(rt, why),
     }
 }
 
 // Cell is where the cart then is.
-pub fn step(step: Step, cell: usize) {
+pub fn step(rt: &impl Print, step: Step, cell: usize) -> io::Result<()> {
     match step {
-        Step::Moved => say(b" on", cell),
-        Step::Arrived => text(b" arrived"),
-        Step::Refused(why) => refused(why),
+        Step::Moved => say(rt, b" on", cell),
+        Step::Arrived => text(rt, b" arrived"),
+        Step::Refused(why) => refused(rt, why),
     }
 }

@@ -2,9 +2,17 @@
 use crate::show::{number, say, words};
 use crate::state::State;
 use crate::{answers, lending};
+use std::io;
 
 // `layout width height start goal`.
-pub fn layout(mut s: State, width: usize, height: usize, start: usize, goal: usize) -> State {
+pub fn layout(
+    rt: &impl Print,
+    mut s: State,
+    width: usize,
+    height: usize,
+    start: usize,
+    goal: usize,
+) -> io::Result<State> {
     let mut ground = s.ground;
     let mut learned = s.learned;
     let mut link = s.link;
@@ -18,17 +26,17 @@ pub fn layout(mut s: State, width: usize, height: usize, start: usize, goal: usi
         lending::bytes(&mut link, s.room, s.short, 3),
     );
     let verdict = changed.verdict;
-    answers::verdict(verdict);
+    answers::verdict(rt, verdict)?;
     let head = changed.head;
     s.head = head;
     s.ground = ground;
     s.learned = learned;
     s.link = link;
-    s
+    Ok(s)
 }
 
 // `report cell`.
-pub fn report(mut s: State, c: usize) -> State {
+pub fn report(rt: &impl Print, mut s: State, c: usize) -> io::Result<State> {
     let given = s.head;
     let mut ground = s.ground;
     let mut learned = s.learned;
@@ -41,15 +49,15 @@ pub fn report(mut s: State, c: usize) -> State {
         c,
     );
     let verdict = changed.verdict;
-    answers::verdict(verdict);
+    answers::verdict(rt, verdict)?;
     let head = changed.head;
     s.head = head;
     s.ground = ground;
     s.link = link;
-    s
+    Ok(s)
 }
 
-pub fn plan(mut s: State) -> State {
+pub fn plan(rt: &impl Print, mut s: State) -> io::Result<State> {
     let given = s.head;
     let mut ground = s.ground;
     let mut learned = s.learned;
@@ -67,8 +75,8 @@ pub fn plan(mut s: State) -> State {
         lending::bytes(&mut trail, s.room, s.short, 6),
     );
     let outcome = planned.outcome;
-    answers::outcome(outcome);
-    say(b" expanded", planned.expanded);
+    answers::outcome(rt, outcome)?;
+    say(rt, b" expanded", planned.expanded)?;
     let head = planned.head;
     s.head = head;
     s.learned = learned;
@@ -76,11 +84,11 @@ pub fn plan(mut s: State) -> State {
     s.mark = mark;
     s.cost = cost;
     s.trail = trail;
-    s
+    Ok(s)
 }
 
 // `move`, which is a word of the language.
-pub fn advance(mut s: State) -> State {
+pub fn advance(rt: &impl Print, mut s: State) -> io::Result<State> {
     let given = s.head;
     let mut ground = s.ground;
     let mut learned = s.learned;
@@ -93,14 +101,14 @@ pub fn advance(mut s: State) -> State {
     );
     let step = moved.step;
     let head = moved.head;
-    answers::step(step, head.cell);
+    answers::step(rt, step, head.cell)?;
     s.head = head;
     s.link = link;
-    s
+    Ok(s)
 }
 
 // `question`: the question, then list with its front, and list by its count.
-pub fn list(mut s: State) -> State {
+pub fn list(rt: &impl Print, mut s: State) -> io::Result<State> {
     let head = s.head;
     let mut ground = s.ground;
     let mut learned = s.learned;
@@ -110,11 +118,15 @@ pub fn list(mut s: State) -> State {
     let l = &lending::words(&mut learned, s.room, s.short, 2)[..];
     let k = &lending::bytes(&mut link, s.room, s.short, 3)[..];
     let buffer = lending::words(&mut list, s.room, s.short, 7);
-    number(calls::list::list_question(head, g, l, k, &buffer[..]));
+    number(rt, calls::list::list_question(head, g, l, k, &buffer[..]))?;
     let front = calls::list::list(head, g, l, k, &mut buffer[..]);
     let length = front.len();
-    words(0, b" list", front, length);
-    say(b" count", calls::list::list_count(head, g, l, k, buffer));
+    words(rt, 0, b" list", front, length)?;
+    say(
+        rt,
+        b" count",
+        calls::list::list_count(head, g, l, k, buffer),
+    )?;
     s.list = list;
-    s
+    Ok(s)
 }

@@ -6,34 +6,30 @@ pub fn line_end(script: &[u8], at: usize) -> usize
     requires { at ≤ length script.now }
     ensures { (at ≤ result) × (result ≤ length script.now) }
 {
-    let mut end = at;
-    while end < script.len() {
+    for end in at..script.len() {
         if script[end] == b'\n' {
             return end;
         }
-        end += 1;
     }
-    end
+    script.len()
 }
 
 // The number with one digit more. It wraps where 64 bits don't hold it.
 fn with_digit(n: usize, digit: u8) -> usize {
-    let units = std::num::wrapping_sub_u8(digit, b'0') as usize;
-    std::num::wrapping_add_usize(n % 1844674407370955162 * 10, units)
+    let units = digit.wrapping_sub(b'0') as usize;
+    (n % 1844674407370955162 * 10).wrapping_add(units)
 }
 
 // The number at this place of a line, whose first word has place 0; 0 where the line ends before it.
 pub fn number(line: &[u8], place: usize) -> usize {
     let mut n = 0;
-    let mut at = 0;
-    let mut i = 0;
-    while i < line.len() {
-        if line[i] == b' ' {
-            at = std::num::wrapping_add_usize(at, 1);
+    let mut at: usize = 0;
+    for byte in line {
+        if *byte == b' ' {
+            at = at.wrapping_add(1);
         } else if at == place {
-            n = with_digit(n, line[i]);
+            n = with_digit(n, *byte);
         }
-        i += 1;
     }
     n
 }

@@ -2,6 +2,7 @@
 // seven lent buffers takes far longer to check.
 use crate::show::{bytes, say, words};
 use model::Head;
+use std::io;
 
 // Entries of each buffer: two more than the largest plot has cells.
 pub const ROOM: usize = Head::MAX_CELLS + 2;
@@ -58,30 +59,23 @@ pub fn cell(mut s: State, c: usize, ground: usize, learned: usize, link: usize) 
 }
 
 // `entries n`: the first n of each buffer, and the checksum of all.
-pub fn entries(s: State, n: usize) -> State {
-    say(b"\n  sum", checksum(s, n));
-    s
+pub fn entries(rt: &impl Print, s: State, n: usize) -> io::Result<State> {
+    say(rt, b"\n  sum", checksum(rt, &s, n)?)?;
+    Ok(s)
 }
 
 // The checksum of every entry of every buffer. The first n entries of each are printed.
-pub fn checksum(s: State, n: usize) -> usize {
-    let ground = s.ground;
-    let learned = s.learned;
-    let link = s.link;
-    let mut sum = bytes(0, b"\n  ground", &ground, n);
-    sum = words(sum, b"\n  learned", &learned, n);
-    sum = bytes(sum, b"\n  link", &link, n);
-    checksum_on(s, n, sum)
+pub fn checksum(rt: &impl Print, s: &State, n: usize) -> io::Result<usize> {
+    let mut sum = bytes(rt, 0, b"\n  ground", &s.ground, n)?;
+    sum = words(rt, sum, b"\n  learned", &s.learned, n)?;
+    sum = bytes(rt, sum, b"\n  link", &s.link, n)?;
+    checksum_on(rt, s, n, sum)
 }
 
 // The same of scratch and of list's buffer, from a checksum on.
-fn checksum_on(s: State, n: usize, from: usize) -> usize {
-    let mark = s.mark;
-    let cost = s.cost;
-    let trail = s.trail;
-    let list = s.list;
-    let mut sum = bytes(from, b"\n  mark", &mark, n);
-    sum = words(sum, b"\n  cost", &cost, n);
-    sum = bytes(sum, b"\n  trail", &trail, n);
-    words(sum, b"\n  list", &list, n)
+fn checksum_on(rt: &impl Print, s: &State, n: usize, from: usize) -> io::Result<usize> {
+    let mut sum = bytes(rt, from, b"\n  mark", &s.mark, n)?;
+    sum = words(rt, sum, b"\n  cost", &s.cost, n)?;
+    sum = bytes(rt, sum, b"\n  trail", &s.trail, n)?;
+    words(rt, sum, b"\n  list", &s.list, n)
 }
