@@ -5,23 +5,26 @@
 #   tools/kit.sh words PROGRAM    the words that start a program that the kit linked, one to a line
 
 kit_root=$(cd "$(dirname "${BASH_SOURCE[0]}")/.." && pwd)
-kit_archive=$kit_root/target/staticlib/libsalenduro.a
+kit_archive=$kit_root/crates/salenduro/out/libsalenduro.a
 kit_target=x86_64-unknown-linux-gnu
 
-# kit_find: the kit's folder as kit_home; of it the part for this processor, and the tools there, as kit_own and kit_tools.
+# kit_find: the kit's folder as kit_home, and of it the tools of the compiler as kit_tools.
 kit_find() {
     local guide
     [ -z "${kit_home:-}" ] || return 0
     guide=$(rt doc) || return
-    kit_home=$(dirname "$(dirname "$guide")")
-    kit_own=$kit_home/on/$(uname -m)
-    kit_tools=$kit_own/toolchain
+    kit_home=$(dirname "$guide")
+    kit_tools=$kit_home/toolchain
 }
 
-kit_fresh() { [ -f "$1" ] && [ -z "$(find "$kit_root/crates" "$kit_root/crates.txt" -newer "$1" -print -quit)" ]; }
+# rt keeps and writes its own in the folder out of each crate, and making that changes the crate's folder
+kit_fresh() {
+    [ -f "$1" ] && [ ! "$kit_root/crates.txt" -nt "$1" ] &&
+        [ -z "$(find "$kit_root/crates" -mindepth 2 -name out -prune -o -newer "$1" -print -quit)" ]
+}
 
 # kit_library: builds the proved library, kit_archive, unless it is fresh.
-kit_library() { kit_fresh "$kit_archive" || (cd "$kit_root" && rt staticlib salenduro); }
+kit_library() { kit_fresh "$kit_archive" || (cd "$kit_root/crates/salenduro" && rt lib); }
 
 # kit_compile SOURCE OBJECT [FLAG..]: a file in C that may include the library's header.
 kit_compile() {
@@ -30,7 +33,7 @@ kit_compile() {
 }
 
 # kit_link PROGRAM PART..
-kit_link() { kit_find && "$kit_own/bin/rattle-link" --target $kit_target --toolchain "$kit_tools" -o "$@"; }
+kit_link() { kit_find && "$kit_home/bin/rattle-link" --target $kit_target --toolchain "$kit_tools" -o "$@"; }
 
 # kit_find_words PROGRAM: the words that start it, as the list kit_words; on a processor other than x86-64 the first is the kit's emulator.
 kit_find_words() {

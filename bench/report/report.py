@@ -53,7 +53,7 @@ RECORDS: List[Column] = [
 def how(figures: Figures) -> str:
     about = figures.about
     if about["machine"] == "x86_64":
-        proved = "the archives that `rt staticlib` writes (clang of the kit, -O3, for any x86-64)"
+        proved = "the archives that `rt lib` writes (clang of the kit, -O3, for any x86-64)"
     else:
         proved = f"the proved build's own LLVM module, compiled for {about['machine']} by the kit's clang at -O3 (`bench/native`)"
     packages = []

@@ -1,4 +1,4 @@
-//! Finds the archive and has it linked: what SALENDURO_ARCHIVE names, or what `rt staticlib salenduro` wrote.
+//! Finds the archive and has it linked: what SALENDURO_ARCHIVE names, or what `rt lib` wrote in crates/salenduro.
 
 use std::env;
 use std::path::PathBuf;
@@ -12,11 +12,11 @@ fn main() {
         return;
     }
     let named = env::var_os("SALENDURO_ARCHIVE").filter(|name| !name.is_empty());
-    let archive = named.map_or_else(|| PathBuf::from("../../target/staticlib/libsalenduro.a"), PathBuf::from);
+    let archive = named.map_or_else(|| PathBuf::from("../../crates/salenduro/out/libsalenduro.a"), PathBuf::from);
     println!("cargo:rerun-if-changed={}", archive.display());
     let found = archive.canonicalize().ok().filter(|path| path.is_file());
     let Some((folder, name)) = found.as_ref().and_then(|path| path.parent().zip(path.file_name())) else {
-        eprintln!("no archive at {}: run `rt staticlib salenduro`, or name one in SALENDURO_ARCHIVE", archive.display());
+        eprintln!("no archive at {}: run `rt lib` in crates/salenduro, or name one in SALENDURO_ARCHIVE", archive.display());
         exit(1);
     };
     println!("cargo:rustc-link-search=native={}", folder.display());

@@ -14,8 +14,8 @@ ROOT = Path(__file__).resolve().parents[2]
 CRATE = {
     "src/lib.rt": "pub fn add(a: u8) -> u8 {\n    a + 1\n}\n\npub fn take(a: u8) -> u8 {\n    a - 1\n}\n",
     "specs/Sum.antt": "pub sum : ℕ → ℕ\nsum n = n + 1\n",
-    "proofs/add/Proof.antt": "returns : Need\nreturns = refl\n",
-    "proofs/take/Proof.antt": "returns : Need\nreturns = refl\n",
+    "proofs/add/Answers.antt": "pub returns : goal.returns\nreturns = refl\n",
+    "proofs/take/Answers.antt": "pub returns : goal.returns\nreturns = refl\n",
     "proofs/Laws.antt": "pub sum-is : Law\nsum-is = refl\n",
 }
 

@@ -11,7 +11,7 @@ WRONG = {"crates/sums/must-fail/borders.edit": ADD}
 
 class Listing(InARoom):
     def test_a_library_and_a_program(self):
-        self.write({**WRONG, "crates.txt": "sums:\nshow: sums # a program\n", "crates/show/src/main.rt": "", "crates/show/stdout": "1\n"})
+        self.write({**WRONG, "crates.txt": "sums staticlib:\nshow: # a program\n", "crates/show/src/main.rt": "", "crates/show/stdout": "1\n"})
         self.assertEqual((0, "5 passed, 0 failed"), (self.said(listing.run)[0], self.said(listing.run)[1][-1]))
 
     def test_what_is_missing(self):
@@ -66,7 +66,7 @@ class Listing(InARoom):
 
     def test_a_fact_that_two_of_a_set_name(self):
         why = self.cannot_be_tried(borders=f"{ADD}\n{TAKE.replace('proofs/take', 'proofs/add')}")
-        self.assertIn("borders/one_less: another block of its set names proofs/add/Proof.antt returns", why)
+        self.assertIn("borders/one_less: another block of its set names proofs/add/Answers.antt returns", why)
 
 
 class Layout(InARoom):
@@ -80,6 +80,10 @@ class Layout(InARoom):
         status, lines = self.said(layout.run)
         self.assertEqual((1, "0 passed, 2 failed"), (status, lines[-1]))
         self.assert_one(lines, "crates/sums/proofs/deep/er/Long.antt:2 is longer than 160 characters")
+
+    def test_what_rt_keeps_is_not_looked_at(self):
+        self.write({"crates/sums/out/rlib/sums.rlib/lang/src/lib.rt": "x" * 161 + "\n"})
+        self.assertEqual((0, "1 passed, 0 failed"), (self.said(layout.run)[0], self.said(layout.run)[1][-1]))
 
     def test_nothing_to_look_at(self):
         shutil.rmtree(self.room / "crates")

@@ -58,6 +58,7 @@ class Papers(InARoom):
             "crates/sums/src/inner/most.rt": "fn far_in() {}\n",
             "crates/sums/must-fail/borders.edit": "# one_more\n",
             "include/sums.h": "#define SUMS_NONE 1\n",
+            "crates/sums/out/kept.oantt": "made_by_rt\n",
             "docs/DECISIONS.md": "`crates.txt`\n",
             "docs/PROMISES.md": "`crates.txt`\n",
             "docs/landings/1-first.md": "`crates.txt`\n",
@@ -77,7 +78,7 @@ class Papers(InARoom):
                 self.assertEqual([], self.missing(f"So `{words}` is."))
 
     def test_what_is_free(self):
-        free = ["sums", "N", "move", "target/show/NAME.svg", "k / 8", "# LABEL", "--jobs N", "https://a.b/c", "a ≡ b", "sums_*"]
+        free = ["sums", "N", "move", "target/show/NAME.svg", "out/facts", "crates/sums/out/libsums.a", "k / 8", "# LABEL", "--jobs N", "https://a.b/c", "a ≡ b", "sums_*"]
         for words in free:
             with self.subTest(words):
                 self.assertEqual([], self.missing(f"So `{words}` is, and `crates.txt`."))
@@ -89,6 +90,7 @@ class Papers(InARoom):
             "specs/deep/Laws": "specs/deep/Laws: there is no such file",
             "gone/": "gone/: there is no such file",
             "crates/*/gone": "crates/*/gone: there is no such file",
+            "sums/out.c": "sums/out.c: there is no such file",
             "tests/gone --seed N": "tests/gone: there is no such file",
             "gone.md": "gone.md: there is no such file",
             "sums::gone": "sums declares no gone",
@@ -98,6 +100,7 @@ class Papers(InARoom):
             "more#one": "more#one: there is no crate more",
             "sumOf": "sumOf stands in no source",
             "sum-of-all": "sum-of-all stands in no source",
+            "made_by_rt": "made_by_rt stands in no source",
         }
         for words, why in gone.items():
             with self.subTest(words):

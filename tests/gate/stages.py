@@ -85,7 +85,7 @@ class Stages(InARoom):
             ("aarch64", "bindings", "bindings/rust/run", (0, "1 passed, 0 failed")),
             ("x86_64", "bindings", "bindings/rust/run", (1, "0 passed, 1 failed")),
             ("aarch64", "show", "tests/show/run", (1, "0 passed, 1 failed")),
-            ("aarch64", "proofs", "bin/rt", (1, "1 passed, 2 failed")),
+            ("aarch64", "proofs", "bin/rt", (1, "2 passed, 2 failed")),
         ]:
             with self.subTest(machine=machine, stage=stage):
                 self.script("bin/uname", f"echo {machine}")
@@ -99,28 +99,29 @@ class Stages(InARoom):
         """The gate's own tools count one thing that holds."""
         self.write({"tools/gate/__main__.py": "print('1 passed, 0 failed')"})
 
-    def test_layout(self):
-        self.tools_pass()
-        for body, wanted in {"": (0, "2 passed, 0 failed"), "exit 1": (1, "1 passed, 1 failed")}.items():
-            with self.subTest(body):
-                self.script("bin/rt", f'[ "$*" = "fmt --check" ] || exit 9\n{body}')
-                self.assertEqual(wanted, self.ended("layout"))
-
     def test_proofs(self):
         self.tools_pass()
+        well = "echo 'rt: ok; handles allowed: none; must-fail edits: 4 refused, 1 of them only by a limit; every proof'"
         for body, wanted in {
-            "echo 5 passed, 0 failed": (0, "7 passed, 0 failed"),
-            "echo 5 passed, 1 failed; exit 1": (1, "7 passed, 1 failed"),
-            "echo 5 passed, 0 failed; exit 2": (1, "7 passed, 1 failed"),
-            "echo rt: bad crates.txt; exit 2": (1, "2 passed, 1 failed"),
-            "echo logic=proved cache=trusted; echo 5 passed, 0 failed": (1, "6 passed, 1 failed"),
-            "echo incremental=trusted >target/log/sums.say; echo 5 passed, 0 failed": (1, "6 passed, 1 failed"),
-            "rm -r target/log; echo 5 passed, 0 failed": (1, "6 passed, 1 failed"),
+            f"{well}; echo 5 passed, 0 failed": (0, "8 passed, 0 failed"),
+            f"{well}; echo 5 passed, 1 failed; exit 1": (1, "8 passed, 1 failed"),
+            f"{well}; echo 5 passed, 0 failed; exit 2": (1, "8 passed, 1 failed"),
+            f"{well.replace('; every', ', 1 bad; every')}; echo 5 passed, 0 failed": (1, "7 passed, 1 failed"),
+            "echo 5 passed, 0 failed": (1, "7 passed, 1 failed"),
+            "echo rt: bad crates.txt; exit 2": (1, "2 passed, 2 failed"),
+            f"{well}; echo logic=proved cache=trusted; echo 5 passed, 0 failed": (1, "7 passed, 1 failed"),
+            f"{well}; echo logic=proved incremental=trusted; echo 5 passed, 0 failed": (1, "7 passed, 1 failed"),
         }.items():
             with self.subTest(body):
-                self.write({"target/log/sums.say": "logic=proved\n"})
-                self.script("bin/rt", f'[ "$*" = ci ] || exit 9\n{body}')
+                self.script("bin/rt", f'[ "$*" = ci ] || exit 9\n[ ! -e out ] || exit 8\n{body}')
                 self.assertEqual(wanted, self.ended("proofs"))
+                self.assertIn("passed" if "passed" in body else "rt: bad", (self.room / "out/ci.log").read_text("utf-8"))
+                shutil.rmtree(self.room / "out")
+
+    def test_what_rt_ci_says_is_handed_on(self):
+        self.write({"tools/gate/__main__.py": "import sys; assert sys.argv[1:] == ['trust', 'out/ci.log']; print('1 passed, 0 failed')"})
+        self.script("bin/rt", "echo 'rt: ok; more'; echo 5 passed, 0 failed")
+        self.assertEqual((0, "8 passed, 0 failed"), self.ended("proofs"))
 
     def test_no_variable_chooses_another_library(self):
         names = ["SALENDURO_ARCHIVE", "SALENDURO_INCLUDE", "SALENDURO_MORE"]

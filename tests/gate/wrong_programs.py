@@ -1,46 +1,44 @@
 """The judge of wrong programs: what it lets pass, and everything that it refuses."""
 
-from typing import Dict, List
+from pathlib import Path
+from typing import Dict, Iterator, List
+from unittest import mock
 
 from common import InARoom
-from gate import edits, facts
+from gate import facts, tries
 
-ADD = "# one_more\nTwo are added.\nrefused at: proofs/add/Proof.antt returns\nfile: src/lib.rt\nold: a + 1\nnew: a + 2\n"
-TAKE = "# one_less\nTwo are taken.\nrefused at: proofs/take/Proof.antt returns\nfile: src/lib.rt\nold: a - 1\nnew: a - 2\n"
+ADD = "# one_more\nTwo are added.\nrefused at: proofs/add/Answers.antt returns\nfile: src/lib.rt\nold: a + 1\nnew: a + 2\n"
+TAKE = "# one_less\nTwo are taken.\nrefused at: proofs/take/Answers.antt returns\nfile: src/lib.rt\nold: a - 1\nnew: a - 2\n"
 SUM = "# sum_of_two\nAnother sum.\nrefused at: proofs/Laws.antt sum-is\nfile: specs/Sum.antt\nold: n + 1\nnew: n + 2\n"
 
-AT_ADD = "proofs/add/Proof.antt:2:11: error: `returns`: the two types differ"
-AT_TAKE = "proofs/take/Proof.antt:2:11: error: `returns`: the two types differ"
-AT_SUM = "proofs/Laws.antt:2:10: error: `sum-is`: the two types differ"
+AT_ADD = "./proofs/add/Answers.antt:2:11: error: `returns`: the two types differ"
+AT_TAKE = "./proofs/take/Answers.antt:2:11: error: `returns`: the two types differ"
+AT_SUM = "./proofs/Laws.antt:2:10: error: `sum-is`: the two types differ"
+NO_PROOF = "fn sums::add: no proof: expected answers in ./proofs/add/Answers.antt"
 END = "logic=not-proved"
 
 
 class Judged(InARoom):
     def judged(self, sets: Dict[str, str], logs: Dict[str, List[str]]) -> Dict[str, str]:
-        """What the stage says of each wrong program, '' where it is well refused; and under '' what it says besides."""
-        self.try_out(sets, logs)
+        """What the stage says of each wrong program, '' where it is well refused; and under '' what it says besides. `logs` is what
+        the check of each set says."""
+        for name, text in sets.items():
+            self.write({f"crates/sums/must-fail/{name}.edit": text})
         verdicts = {}
-        for line in self.said(facts.run)[1][:-1]:
+        for line in self.told(logs)[:-1]:
             words = line.replace("gate: FAILED: ", "").replace("gate: ", "")
             label, told, why = words.partition(" is refused at the facts that it names")
             verdicts[label.replace("sums/", "") if told else ""] = why[2:] if told else words
         return verdicts
 
-    def try_out(self, sets: Dict[str, str], logs: Dict[str, List[str]]) -> None:
-        """Leaves what `rt must-fail` would: a copy of the crate with the edits of each set, and its log."""
-        crate = self.room / "crates" / "sums"
-        for name, text in sets.items():
-            self.write({f"crates/sums/must-fail/{name}.edit": text})
-            copy = f"target/must-fail/sums/{name}"
-            kept = {path.relative_to(crate).as_posix(): path.read_text("utf-8") for path in crate.rglob("*") if path.is_file()}
-            try:
-                made = edits.edited(crate, [edit for block in edits.blocks(text) for edit in block.edits])
-            except edits.BadEdit:
-                made = {}
-            self.write({f"{copy}/{file}": words for file, words in {**kept, **made}.items() if not file.startswith("must-fail")})
-            if name in logs:
-                lines = [f"/far/{copy}/{line}" if ": error: " in line else line for line in logs[name]]
-                self.write({f"{copy}/.log": "\n".join(lines) + "\n"})
+    def told(self, logs: Dict[str, List[str]], why: str = "") -> List[str]:
+        """The lines of the stage; `why` is why the crate is not proved as it stands."""
+
+        def tried(root: Path, wanted: List[tries.Try], jobs: int, kept: Path) -> Iterator[str]:
+            return iter(["".join(f"{line}\n" for line in logs.get(it.name, [])) for it in wanted])
+
+        with mock.patch.object(tries, "prepare", lambda *_: why), mock.patch.object(tries, "tried", tried):
+            return self.said(facts.run)[1]
 
     def why(self, text: str, log: List[str], label: str = "one_more") -> str:
         return self.judged({"borders": text}, {"borders": log})[label]
@@ -52,12 +50,16 @@ class Refused(Judged):
         self.assertEqual({"one_more": "", "one_less": "", "sum_of_two": ""}, told)
 
     def test_what_waits_does_not_count(self):
-        waits = "proofs/add/Proof.antt:1:1: error: `add-spec`: `returns` was not admitted, so this cannot be checked"
-        self.assertEqual("", self.why(ADD, [waits, AT_ADD, END]))
+        for waits in (
+            "./proofs/add/Answers.antt:1:1: error: 1 declaration that depends on `returns`, which was rejected, was not checked: more",
+            "fn sums::more: no proof: it calls `sums::add`, which is not proved",
+        ):
+            with self.subTest(waits):
+                self.assertEqual("", self.why(ADD, [waits, AT_ADD, END]))
 
-    def test_a_need_of_a_function_without_a_proof_file(self):
-        text = ADD.replace("proofs/add/Proof.antt returns", "fn sums::add returns-2")
-        line = "fn sums::add: no proof: expected `add-spec`; `search` does not close `returns`, `returns-2`; it calls `sums::take`"
+    def test_a_goal_of_a_function_that_the_check_did_not_prove(self):
+        text = ADD.replace("proofs/add/Answers.antt returns", "fn sums::add returns-then-a-eq0")
+        line = f"{NO_PROOF}; `search` did not prove `returns`, `returns-then-a-eq0`; it calls `sums::take`"
         self.assertEqual("", self.why(text, [line, END]))
 
     def test_two_facts(self):
@@ -70,29 +72,39 @@ class Refused(Judged):
 class NotRefused(Judged):
     def test_the_first_error_is_at_another_fact(self):
         self.assertIn("at no fact that a block names", self.why(ADD, [AT_SUM, AT_ADD, END]))
-        other = "proofs/add/Proof.antt:1:1: error: `helper`: it differs"
+        other = "proofs/add/Answers.antt:1:1: error: `helper`: it differs"
         told = self.judged({"borders": f"{ADD}\n{TAKE}"}, {"borders": [AT_TAKE, other, AT_ADD, END]})
-        self.assertIn("no error at proofs/add/Proof.antt returns, but", told["one_more"])
+        self.assertIn("no error at proofs/add/Answers.antt returns, but", told["one_more"])
         self.assertEqual("", told["one_less"])
 
     def test_the_first_error_is_outside_the_crate(self):
-        self.assertIn("at no fact", self.why(ADD, ["../../other/proofs/add/Proof.antt:2:11: error: `returns`: it differs", AT_ADD, END]))
+        self.assertIn("at no fact", self.why(ADD, ["../../other/proofs/add/Answers.antt:2:11: error: `returns`: it differs", AT_ADD, END]))
 
     def test_an_error_of_names_only(self):
         for words in ("`gone` is not in scope", "the module has no `Need-gone`", "record `Else1` has no field `gone`"):
             with self.subTest(words):
-                shape = f"proofs/add/Proof.antt:2:11: error: `returns`: {words}"
+                shape = f"proofs/add/Answers.antt:2:11: error: `returns`: {words}"
                 self.assertIn("at no fact", self.why(ADD, [shape, END]))
                 told = self.judged({"borders": f"{ADD}\n{TAKE}"}, {"borders": [AT_TAKE, shape, AT_ADD, END]})
                 self.assertIn("of names or of a proof's shape", told["one_more"])
 
+    def test_a_goal_whose_answer_names_what_is_gone(self):
+        text = ADD.replace("proofs/add/Answers.antt returns", "fn sums::add returns")
+        gone = "./proofs/{}/Answers.antt:2:11: error: `returns-2`: `goal.returns-2`: module `Goals` has no `returns-2` that can be named"
+        line = f"{NO_PROOF}; `search` did not prove `returns`"
+        for folder, wanted in (("add", "may only lack its answer"), ("added", ""), ("take", "")):
+            with self.subTest(folder):
+                told = self.judged({"borders": f"{TAKE}\n{text}"}, {"borders": [AT_TAKE, gone.format(folder), line, END]})
+                self.assertIn(wanted, told["one_more"])
+                self.assertEqual(wanted == "", told["one_more"] == "")
+
     def test_only_one_of_a_set_is_refused(self):
         told = self.judged({"borders": f"{ADD}\n{TAKE}"}, {"borders": [AT_ADD, END]})
-        self.assertEqual({"one_more": "", "one_less": "no error at proofs/take/Proof.antt returns"}, told)
+        self.assertEqual({"one_more": "", "one_less": "no error at proofs/take/Answers.antt returns"}, told)
 
-    def test_a_need_that_only_a_callee_has(self):
-        text = ADD.replace("proofs/add/Proof.antt returns", "fn sums::add sums::take")
-        line = "fn sums::add: no proof: expected `add-spec`; `search` does not close `returns`; it calls `sums::take`, which is not proved"
+    def test_a_goal_that_only_a_callee_has(self):
+        text = ADD.replace("proofs/add/Answers.antt returns", "fn sums::add sums::take")
+        line = f"{NO_PROOF}; `search` did not prove `returns`; it calls `sums::take`, which is not proved"
         self.assertIn("at no fact", self.why(text, [line, END]))
 
     def test_a_check_without_a_verdict(self):
@@ -104,14 +116,14 @@ class NotRefused(Judged):
 
 class BadlyWritten(Judged):
     def test_a_fact_named_twice(self):
-        twice = ADD.replace("returns\n", "returns\nrefused at: proofs/add/Proof.antt returns\n")
+        twice = ADD.replace("returns\n", "returns\nrefused at: proofs/add/Answers.antt returns\n")
         self.assertIn("returns 2 times", self.why(twice, [AT_ADD, END]))
 
     def test_a_fact_that_two_blocks_name(self):
         both = TAKE.replace("proofs/take", "proofs/add")
         told = self.judged({"borders": f"{ADD}\n{both}"}, {"borders": [AT_ADD, END]})
         for label in ("one_more", "one_less"):
-            self.assertEqual("another block of its set names proofs/add/Proof.antt returns", told[label])
+            self.assertEqual("another block of its set names proofs/add/Answers.antt returns", told[label])
 
     def test_a_fact_that_a_block_of_another_set_names(self):
         both = TAKE.replace("proofs/take", "proofs/add")
@@ -154,23 +166,13 @@ class BadlyWritten(Judged):
 
 
 class BadlyTried(Judged):
-    def test_no_logs_at_all(self):
+    def test_a_crate_that_is_not_proved_as_it_stands(self):
         self.write({"crates/sums/must-fail/borders.edit": ADD})
-        status, lines = self.said(facts.run)
-        self.assertEqual(1, status)
-        self.assertEqual("gate: FAILED: target/must-fail has no logs: run `rt must-fail NAME` or `.ci/run proofs` first", lines[0])
-        self.assertEqual("0 passed, 1 failed", lines[-1])
+        lines = self.told({"borders": [AT_ADD, END]}, "`rt all check` did not end well")
+        self.assertEqual(["gate: FAILED: `rt all check` did not end well", "0 passed, 1 failed"], lines)
 
-    def test_a_set_without_a_log(self):
-        self.assertIn("run `rt must-fail sums`", self.judged({"borders": ADD}, {})["one_more"])
-
-    def test_a_log_of_another_text(self):
-        self.try_out({"borders": ADD}, {"borders": [AT_ADD, END]})
-        changed = {"crates/sums/must-fail/borders.edit": ADD.replace("a + 2", "a + 3")}, {"crates/sums/proofs/Laws.antt": "-- other\n"}
-        for files in changed:
-            with self.subTest(files):
-                self.write(files)
-                self.assert_one(self.said(facts.run)[1], "is of other files than these")
+    def test_a_set_that_was_not_tried(self):
+        self.assertEqual("its set was not refused", self.judged({"borders": ADD}, {})["one_more"])
 
 
 class Unreadable(Judged):
@@ -178,7 +180,7 @@ class Unreadable(Judged):
         texts = {
             "it does not begin with a label": "words\n" + ADD,
             "is no label": ADD.replace("one_more", "One more"),
-            "names no fact": ADD.replace("Proof.antt returns", "Proof.antt"),
+            "names no fact": ADD.replace("Answers.antt returns", "Answers.antt"),
             "'old:' has no 'new:'": ADD.partition("new:")[0],
             "'old: a + 9'": ADD.replace("new:", "old: a + 9\nnew:"),
             "'new: a + 2'": ADD.replace("old: a + 1\n", ""),

@@ -10,13 +10,14 @@ from typing import Tuple
 from common import HERE, USES, need, steps
 
 TOOL = HERE.parents[1] / "tools" / "name-places"
-LTS = "Rattle·lay·proofs/proofs/lay/Lts.antt"
-# `rt dev lay --generated DIR` writes what the folder of the variable WRITES has
+LTS = "Rattle-lay-proofs/lay/Lts.antt"
+# `rt check --generated=DIR` writes what the folder of the variable WRITES has; each command is for the folder of a crate
 RT = """\
 #!/bin/sh
+case $PWD in */crates/lay) ;; *) exit 8 ;; esac
 [ "$1" != fmt ] || exit 0
-[ "$1 $2 $3" = "dev lay --generated" ] || exit 9
-cp -R "$WRITES/." "$4/"
+case "$1 $2" in "check --generated="*) ;; *) exit 9 ;; esac
+cp -R "$WRITES/." "${2#--generated=}/"
 echo first
 echo rt: the last line
 exit 1

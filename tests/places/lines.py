@@ -5,6 +5,7 @@ import tempfile
 import unittest
 from contextlib import redirect_stderr
 from pathlib import Path
+from typing import List
 from unittest import mock
 
 from places import files, wrap
@@ -85,26 +86,29 @@ class Files(unittest.TestCase):
     def setUp(self) -> None:
         room = tempfile.TemporaryDirectory(prefix="places-")
         self.addCleanup(room.cleanup)
-        self.file = Path(room.name) / "Laws.antt"
+        self.root = Path(room.name).resolve()
+        self.file = self.root / "crates" / "laws" / "proofs" / "Laws.antt"
+        self.file.parent.mkdir(parents=True)
+        (self.root / "crates" / "other").mkdir()
         self.file.write_text("law a b = other-law a b refl refl\n", encoding="utf-8")
 
     def test_broken_and_formatted_until_nothing_changes(self) -> None:
         with mock.patch.object(files, "formatted", return_value=0) as formatted:
-            self.assertEqual(files.wrap(self.file.parent, [self.file], 28), 0)
+            self.assertEqual(files.wrap(self.root, [self.file], 28), 0)
         self.assertEqual(self.file.read_text(encoding="utf-8"), "law a b =\n    other-law a b refl refl\n")
-        self.assertEqual(formatted.call_count, 2)
+        self.assertEqual(formatted.mock_calls, 2 * [mock.call([self.root / "crates" / "laws"])])
 
     def test_a_refusal_of_the_formatter_is_the_status(self) -> None:
         with mock.patch.object(files, "formatted", return_value=1):
-            self.assertEqual(files.wrap(self.file.parent, [self.file], 28), 1)
+            self.assertEqual(files.wrap(self.root, [self.file], 28), 1)
 
     def test_lines_that_change_in_every_round(self) -> None:
-        def joined(root: Path) -> int:
+        def joined(crates: List[Path]) -> int:
             self.file.write_text(self.file.read_text(encoding="utf-8").replace("\n    ", " "), encoding="utf-8")
             return 0
 
         with mock.patch.object(files, "formatted", side_effect=joined) as formatted, redirect_stderr(io.StringIO()) as said:
-            self.assertEqual(files.wrap(self.file.parent, [self.file], 28), 1)
+            self.assertEqual(files.wrap(self.root, [self.file], 28), 1)
         self.assertEqual(formatted.call_count, files.ROUNDS)
         self.assertEqual(said.getvalue(), f"{self.file}: lines still change after {files.ROUNDS} rounds\n")
 

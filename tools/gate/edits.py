@@ -1,6 +1,6 @@
 """A file of wrong programs, must-fail/SET.edit: its blocks, the facts that each block names, and what its edits make of the crate.
 
-A block is a line '# LABEL', words on what is wrong, lines 'refused at: FILE NAME' or 'refused at: fn FUNCTION NEED', and edits:
+A block is a line '# LABEL', words on what is wrong, lines 'refused at: FILE NAME' or 'refused at: fn FUNCTION GOAL', and edits:
 'file: FILE', and after it pairs of 'old: TEXT' and 'new: TEXT'."""
 
 import re
@@ -18,8 +18,8 @@ class BadEdit(Exception):
 
 
 class Fact(NamedTuple):
-    place: str  # a file below the crate, or 'fn FUNCTION' for a function without a proof file
-    name: str  # a declaration of that file, or a need of that function
+    place: str  # a file below the crate, or 'fn FUNCTION' for a function with goals that the check did not prove
+    name: str  # a declaration of that file, or such a goal
 
     def __str__(self) -> str:
         return f"{self.place} {self.name}"
@@ -100,7 +100,7 @@ def fact(line: str) -> Fact:
         return Fact(f"fn {words[1]}", words[2])
     if len(words) == 2 and words[0] != "fn":
         return Fact(words[0], words[1])
-    raise BadEdit(f"'{line}' names no fact: FILE NAME, or fn FUNCTION NEED")
+    raise BadEdit(f"'{line}' names no fact: FILE NAME, or fn FUNCTION GOAL")
 
 
 def edited(crate: Path, edits: Sequence[Edit]) -> Dict[str, str]:

@@ -1,23 +1,18 @@
-"""The stage `facts`: every wrong program of every crate is refused at the facts that it names, by the logs below target/must-fail."""
+"""The stage `facts`: every wrong program of every crate is refused at the facts that it names. Those of one file, a set, are tried in
+one check; the logs are then below out/facts. `python3 -m gate facts [CRATE..] [--jobs N]` tries those of some crates."""
 
 from pathlib import Path
 from typing import List, Optional
 
-from . import edits, judge, repository
+from . import edits, judge, log, tries
 from .report import Report
 
-
-def judge_crate(crate: Path, logs: Path, report: Report) -> None:
-    found, unread = edits.sets(crate)
-    for why in unread:
-        report.bad(why)
-    for one, faults in zip(found, judge.written(crate, [one.blocks for one in found])):
-        judge_set(crate, one, faults, logs / crate.name / one.name, report)
+LOGS = Path("out", "facts")
 
 
-def judge_set(crate: Path, one: edits.Set, faults: List[str], copy: Path, report: Report) -> None:
-    why = judge.tried(copy, crate, one.blocks)
-    errors = [] if why else judge.log_of(copy)
+def judge_set(crate: Path, one: edits.Set, faults: List[str], said: str, report: Report) -> None:
+    why = judge.together(crate, one.blocks) or judge.ended(said)
+    errors = [] if why else log.errors(said)
     why = why or judge.stray(one.blocks, errors)
     for block, fault in zip(one.blocks, faults):
         fault = fault or why or judge.unbroken(block, errors)
@@ -25,11 +20,11 @@ def judge_set(crate: Path, one: edits.Set, faults: List[str], copy: Path, report
 
 
 def run(root: Path, arguments: Optional[List[str]] = None) -> int:
-    report = Report()
-    logs = root / "target" / "must-fail"
-    if not logs.is_dir():
-        report.bad("target/must-fail has no logs: run `rt must-fail NAME` or `.ci/run proofs` first")
-        return report.end()
-    for crate in repository.folders(root):
-        judge_crate(crate, logs, report)
+    report, given = Report(), tries.asked("facts", __doc__, root, arguments)
+    ready = tries.ready(root, given, root / LOGS, report)
+    wanted = [tries.Try(crate.name, one.name, judge.edits_of(one.blocks)) for crate, found in ready for one in found]
+    logs = tries.tried(root, wanted, given.jobs, root / LOGS)
+    for crate, found in ready:
+        for one, faults in zip(found, judge.written(crate, [one.blocks for one in found])):
+            judge_set(crate, one, faults, next(logs), report)
     return report.end()

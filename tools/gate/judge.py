@@ -5,9 +5,8 @@ from collections import Counter
 from pathlib import Path
 from typing import Dict, FrozenSet, List, Sequence, Tuple
 
-from .edits import BadEdit, Block, Edit, edited
-from .log import Error, errors, read, refused
-from .repository import PARTS
+from .edits import BadEdit, Block, Edit, Fact, edited
+from .log import Error, refused
 
 Made = FrozenSet[Tuple[str, str]]  # the files that a block changes, as they are then
 
@@ -48,38 +47,19 @@ def _shared(block: Block, blocks: Sequence[Block]) -> str:
 def together(crate: Path, blocks: Sequence[Block]) -> str:
     """Why the edits of a set cannot be made one after the other."""
     try:
-        edited(crate, _edits(blocks))
+        edited(crate, edits_of(blocks))
     except BadEdit as bad:
         return f"its edits cannot be made together: {bad}"
     return ""
 
 
-def _edits(blocks: Sequence[Block]) -> List[Edit]:
+def edits_of(blocks: Sequence[Block]) -> List[Edit]:
     return [edit for block in blocks for edit in block.edits]
 
 
-def tried(copy: Path, crate: Path, blocks: Sequence[Block]) -> str:
-    """Why the log in `copy`, which is target/must-fail/CRATE/SET, is not of these blocks on this crate."""
-    first = f"run `rt must-fail {crate.name}` or `.ci/run proofs` first"
-    if not (copy / ".log").is_file():
-        return f"its set has no log: {first}"
-    why = together(crate, blocks)
-    if why:
-        return f"of its set: {why}"
-    wanted = {**_files(crate), **{name: text.encode() for name, text in edited(crate, _edits(blocks)).items()}}
-    if _files(copy) != wanted:
-        return f"the log of its set is of other files than these: {first}"
-    return "" if refused(read(copy / ".log")) else "its set was not refused"
-
-
-def _files(crate: Path) -> Dict[str, bytes]:
-    """What a check reads of a crate."""
-    paths = (path for part in PARTS for path in (crate / part).rglob("*") if path.is_file())
-    return {path.relative_to(crate).as_posix(): path.read_bytes() for path in paths}
-
-
-def log_of(copy: Path) -> List[Error]:
-    return errors(read(copy / ".log"), "/".join(copy.parts[-3:]))
+def ended(log: str) -> str:
+    """Why the check of a set says nothing of its blocks."""
+    return "" if refused(log) else "its set was not refused"
 
 
 def stray(blocks: Sequence[Block], found: Sequence[Error]) -> str:
@@ -103,7 +83,19 @@ def unbroken(block: Block, found: Sequence[Error]) -> str:
         among = there[:1] if fact == block.facts[0] else there
         if not any(error.refuses(fact) for error in among):
             return f"no error at {fact}, but {there[0].said[:200]}"
+        why = unanswered(fact, found)
+        if why:
+            return why
     return ""
+
+
+def unanswered(fact: Fact, found: Sequence[Error]) -> str:
+    """Why a goal of a function may only lack its answer: among the answers one names what is gone, as where the goal had another name."""
+    if not fact.place.startswith("fn "):
+        return ""
+    answers = "/".join(["proofs", *fact.place.split("::")[1:], ""])
+    gone = [error for error in found if error.of_shape() and error.place.startswith(answers)]
+    return f"{fact} may only lack its answer, since that names what is gone: {gone[0].said[:200]}" if gone else ""
 
 
 def leaning(block: Block, blocks: Sequence[Block], found: Sequence[Error]) -> str:

@@ -1,8 +1,9 @@
-"""The stage `layout`, beside `rt fmt --check`: no line of a .rt or .antt file is longer than 160 characters."""
+"""The stage `layout`: no line of a .rt or .antt file is longer than 160 characters. That `rt fmt` laid them out is for `rt ci` to say."""
 
 from pathlib import Path
 from typing import List, Optional
 
+from . import repository
 from .report import Report
 
 LONGEST = 160
@@ -15,7 +16,7 @@ def long_lines(path: Path) -> List[int]:
 
 def run(root: Path, arguments: Optional[List[str]] = None) -> int:
     report = Report()
-    files = sorted(path for kind in ("*.rt", "*.antt") for path in (root / "crates").rglob(kind))
+    files = [path for path in repository.walk(root / "crates") if path.suffix in (".rt", ".antt")]
     for path in files:
         for number in long_lines(path):
             report.bad(f"{path.relative_to(root)}:{number} is longer than {LONGEST} characters")

@@ -7,7 +7,7 @@ newest note of a landing, the one of the highest number. Names stand in code spa
     `model#own_link_only, step_wraps`        wrong programs of a crate, by their labels
 
 A word with a slash, or with the ending of a source file, is a file. A word alone that can only be a name, since it has a _, a hyphen
-or a capital inside, stands in some source. What is below target/ is built, and not looked for; all else is free."""
+or a capital inside, stands in some source. What is below a folder target/ or out/ is built, and not looked for; all else is free."""
 
 import re
 from pathlib import Path
@@ -93,7 +93,7 @@ class Repository:
 
     @staticmethod
     def _is_file(word: str) -> bool:
-        if word == "/" or "://" in word or word.startswith("target/"):
+        if word == "/" or "://" in word or any(made in word.split("/")[:-1] for made in repository.MADE):
             return False
         return "/" in word or FILE.fullmatch(word) is not None
 
@@ -145,7 +145,7 @@ class Repository:
     def words(self) -> Set[str]:
         """Every word of every source, and of every path."""
         if not self._words:
-            paths = [path for base in SOURCES for path in (self.root / base).rglob("*")]
+            paths = [path for base in SOURCES for path in repository.walk(self.root / base)]
             for path in [*paths, *self.root.iterdir()]:
                 self._words.update(NAME.findall(path.name))
                 if path.is_file() and path.suffix != ".md":

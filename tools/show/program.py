@@ -8,6 +8,7 @@ import sys
 from pathlib import Path
 from typing import List, Sequence
 
+BUILT = Path("crates", "drive", "out", "drive")
 # far more than any drive takes under an emulator
 PATIENCE = 600
 BAD_INPUT = "bad input\n"
@@ -25,26 +26,27 @@ def proved(root: Path) -> List[str]:
     """The words that start the proved program, over the kit's loader and C library."""
     if not shutil.which("rt"):
         raise NoProgram("the Rattle kit's command 'rt' is not here; --drive PROGRAM names another drive program")
-    kit, program = str(root / "tools" / "kit.sh"), root / "target" / "bin" / "drive"
+    kit, program = str(root / "tools" / "kit.sh"), root / BUILT
     if subprocess.run([kit, "fresh", str(program)]).returncode != 0:
         build(root)
     return said(root, kit, "words", str(program)).splitlines()
 
 
 def build(root: Path) -> None:
-    words = "show: building the proved drive program (rt check drive), which takes some minutes from nothing"
+    words = "show: building the proved drive program (rt run in crates/drive), which takes some minutes from nothing"
     print(words, file=sys.stderr, flush=True)
-    said(root, "rt", "check", "drive")
-    program = root / "target" / "bin" / "drive"
+    # that runs it too: on no input, for which it prints that this is bad
+    said(root / "crates" / "drive", "rt", "run")
+    program = root / BUILT
     if not program.exists():
-        raise NoProgram("'rt check drive' wrote no target/bin/drive")
+        raise NoProgram(f"'rt run' in crates/drive wrote no {BUILT}")
     # rt goes by what files hold, and leaves a program that is still right as it was: it is as new as the crates now
     program.touch()
 
 
-def said(root: Path, *words: str) -> str:
-    """What a command says, or NoProgram where it fails."""
-    ended = subprocess.run(words, cwd=root, stdout=subprocess.PIPE, stderr=subprocess.STDOUT)
+def said(folder: Path, *words: str) -> str:
+    """What a command says in a folder, or NoProgram where it fails."""
+    ended = subprocess.run(words, cwd=folder, stdin=subprocess.DEVNULL, stdout=subprocess.PIPE, stderr=subprocess.STDOUT)
     text = ended.stdout.decode("utf-8", "replace").strip()
     if ended.returncode != 0:
         last = text.splitlines()[-1] if text else "it said nothing"
