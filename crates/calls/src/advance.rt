@@ -5,37 +5,33 @@ ghost use Rattle.model.specs.Move.{moved};
 ghost use Rattle.model.specs.Ways.{Accepts};
 
 use checks::acceptance;
-use grid::ahead;
-use grid::routes::leads;
-use model::{Head, Moved, Reason, Step, Verdict};
+use grid::plot::Plot;
+use model::{Head, Moved, Reason, Step};
 
 // Move. (The ground is not asked: sound links lead to free cells.)
 pub fn onward(head: Head, ground: &[u8], learned: &[u16], link: &mut [u8]) -> Moved
     requires { Accepts head (lent_with ground.now learned.now link.old) }
     ensures { after result (lent_with ground.now learned.now link.new) ≡ moved head (lent_with ground.now learned.now link.old) }
 {
-    let width = head.width;
-    let height = head.height;
-    let goal = head.goal;
     let cell = head.cell;
-    if cell == goal {
+    if cell == head.goal {
         return Moved {
             head,
-            step: Step::Arrived,
+            step: Ok(Step::Arrived),
         };
     }
-    if !leads(width, height, goal, learned, &link[..], cell) {
+    let plot = Plot::new(head.width, head.height);
+    if !plot.leads(head.goal, learned, &link[..], cell) {
         return Moved {
             head,
-            step: Step::Refused(Reason::NoRoute),
+            step: Err(Reason::NoRoute),
         };
     }
-    let d = link[cell];
-    let next = ahead(width, height, width * height, cell, cell % width, d);
+    let next = plot.ahead(cell, cell % plot.width, link[cell]).unwrap();
     link[cell] = 0;
     Moved {
         head: head.moved_to(next),
-        step: Step::Moved,
+        step: Ok(Step::Moved),
     }
 }
 
@@ -44,11 +40,10 @@ pub fn advance(head: Head, ground: &[u8], learned: &[u16], link: &mut [u8]) -> M
     ensures { after result (lent_with ground.now learned.now link.new)
         ≡ moved head (lent_with ground.now learned.now link.old) }
 {
-    let verdict = acceptance(head, ground, learned, link);
-    if let Verdict::Refused(why) = verdict {
+    if let Err(why) = acceptance(head, ground, learned, link) {
         return Moved {
-            head: head,
-            step: Step::Refused(why),
+            head,
+            step: Err(why),
         };
     }
     onward(head, ground, learned, link)

@@ -1,47 +1,49 @@
 // List the route, and its question. The data are tested first, then the route and the buffer.
-ghost use Rattle.std.specs.Prelude.{◌≡◌};
+ghost use Rattle.std.specs.Prelude.{◌≡◌, Ok};
 ghost use Rattle.model.specs.Lent.{fronted, lent_with};
 ghost use Rattle.model.specs.Route.{cells_from};
 ghost use Rattle.model.specs.Listing.{list_check, listed, list_question};
 ghost use Rattle.model.specs.Ways.{Accepts};
-ghost use Rattle.model.specs.declared.Verdict.TheVariants.{Accepted};
 ghost use Rattle.calls.specs.RouteWritten.{Writable, RouteFilled};
-ghost use Rattle.calls.specs.Counted.{Counted};
+ghost use Rattle.model.specs.Numbers.{length_verdict};
+ghost use Rattle.calls.specs.Counted.{Counted, count_in};
 
 use checks::acceptance;
-use grid::ahead;
+use grid::plot::Plot;
 use grid::routes::stands;
-use model::{Head, Reason, Verdict};
+use model::{Head, Reason};
 
 // Whether list is refused: the buffer is asked after the route. (The ground is lent for the contract alone, here and below.)
-fn list_rest(head: Head, ground: &[u8], learned: &[u16], link: &[u8], buffer: &[u16]) -> Verdict
+fn list_rest(
+    head: Head,
+    ground: &[u8],
+    learned: &[u16],
+    link: &[u8],
+    buffer: &[u16],
+) -> Result<(), Reason>
     requires { Accepts head (lent_with ground.now learned.now link.now) }
     ensures { result ≡ list_check head (lent_with ground.now learned.now link.now) buffer.now }
 {
-    let cell = head.cell;
-    let steps = learned[cell] as usize;
+    let steps = learned[head.cell] as usize;
     let stood = stands(head, learned, link);
     if !stood {
-        return Verdict::Refused(Reason::NoRoute);
+        return Err(Reason::NoRoute);
     }
     if buffer.len() <= steps {
-        return Verdict::Refused(Reason::Short);
+        return Err(Reason::Short);
     }
-    Verdict::Accepted
+    Ok(())
 }
 
 // The cells on v steps along links, from c on, into the front of the buffer.
-fn follow(width: usize, height: usize, link: &[u8], buffer: &mut [u16], v: usize, c: usize)
-    requires { Writable width height v c link.now buffer.old }
-    ensures { buffer.new ≡ fronted (cells_from width height link.now v c) buffer.old }
+fn follow(plot: Plot, link: &[u8], buffer: &mut [u16], v: usize, c: usize)
+    requires { Writable plot.width plot.height v c link.now buffer.old }
+    ensures { buffer.new ≡ fronted (cells_from plot.width plot.height link.now v c) buffer.old }
 {
-    let n = width * height;
     let mut at = c;
-    let mut i = 0;
-    while i < v {
+    for i in 0..v {
         buffer[i] = at as u16;
-        at = ahead(width, height, n, at, at % width, link[at]);
-        i += 1;
+        at = plot.ahead(at, at % plot.width, link[at]).unwrap();
     }
     buffer[v] = at as u16;
 }
@@ -54,27 +56,30 @@ pub fn fill_route(
     link: &[u8],
     buffer: &mut [u16],
 ) -> usize
-    requires { list_check head (lent_with ground.now learned.now link.now) buffer.old ≡ Accepted }
+    requires { list_check head (lent_with ground.now learned.now link.now) buffer.old ≡ Ok tt }
     ensures { RouteFilled head (lent_with ground.now learned.now link.now) buffer.old result buffer.new }
 {
-    let cell = head.cell;
-    let steps = learned[cell] as usize;
-    follow(head.width, head.height, link, buffer, steps, cell);
+    let steps = learned[head.cell] as usize;
+    let plot = Plot::new(head.width, head.height);
+    follow(plot, link, buffer, steps, head.cell);
     steps + 1
 }
 
 // Whether list is refused, and why.
-fn list_check(head: Head, ground: &[u8], learned: &[u16], link: &[u8], buffer: &[u16]) -> Verdict
+fn list_check(
+    head: Head,
+    ground: &[u8],
+    learned: &[u16],
+    link: &[u8],
+    buffer: &[u16],
+) -> Result<(), Reason>
     ensures { result ≡ list_check head (lent_with ground.now learned.now link.now) buffer.now }
 {
-    let verdict = acceptance(head, ground, learned, link);
-    if let Verdict::Refused(why) = verdict {
-        return Verdict::Refused(why);
-    }
+    acceptance(head, ground, learned, link)?;
     list_rest(head, ground, learned, link, buffer)
 }
 
-// The question: nothing is written.
+// The question: nothing is written. (A number and no Result: document 01 answers so, and C is handed it on.)
 pub fn list_question(
     head: Head,
     ground: &[u8],
@@ -84,28 +89,25 @@ pub fn list_question(
 ) -> usize
     ensures { result ≡ list_question head (lent_with ground.now learned.now link.now) buffer.now }
 {
-    let verdict = list_check(head, ground, learned, link, buffer);
-    match verdict {
-        Verdict::Accepted => 0,
-        Verdict::Refused(why) => why.number(),
+    match list_check(head, ground, learned, link, buffer) {
+        Ok(()) => 0,
+        Err(why) => why.number(),
     }
 }
 
-// List with the front's length for an answer, 0 where it is refused: so that the whole buffer afterwards can be told.
+// List with the front's length for an answer: so that the whole buffer afterwards can be told.
 pub fn list_count(
     head: Head,
     ground: &[u8],
     learned: &[u16],
     link: &[u8],
     buffer: &mut [u16],
-) -> usize
-    ensures { Counted head (lent_with ground.now learned.now link.now) buffer.old result buffer.new }
+) -> Result<usize, Reason>
+    ensures verdict { length_verdict result ≡ list_check head (lent_with ground.now learned.now link.now) buffer.old }
+    ensures counted { Counted head (lent_with ground.now learned.now link.now) buffer.old (count_in result) buffer.new }
 {
-    let verdict = list_check(head, ground, learned, link, &buffer[..]);
-    if let Verdict::Refused(_) = verdict {
-        return 0;
-    }
-    fill_route(head, ground, learned, link, buffer)
+    list_check(head, ground, learned, link, &buffer[..])?;
+    Ok(fill_route(head, ground, learned, link, buffer))
 }
 
 // List: the filled front of that same buffer, from its first entry on. A part that is handed back takes the buffer with it,
@@ -119,6 +121,6 @@ pub fn list<'a>(
 ) -> &'a mut [u16]
     ensures { (result.now ≡ (listed head (lent_with ground.now learned.now link.now) buffer.old).front) × (result.ref_ptr ≡ buffer.entry.ref_ptr) }
 {
-    let count = list_count(head, ground, learned, link, buffer);
+    let count = list_count(head, ground, learned, link, buffer).unwrap_or(0);
     &mut buffer[..count]
 }

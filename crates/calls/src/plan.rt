@@ -4,10 +4,11 @@ ghost use Rattle.model.specs.Lent.{lent_with, scratch_with};
 ghost use Rattle.model.specs.Plan.{after_plan, planned};
 
 use checks::plan_check;
-use model::{Head, Outcome, Planned, Verdict};
+use model::{Head, Outcome, Planned, Reason};
 use replan::replan;
 
-// Plan: the way from the cart's cell to the goal over cells not known blocked, and what is learned on it.
+// Plan: the way from the cart's cell to the goal over cells not known blocked, and what is learned on it. (Mark, cost and trail are three
+// parameters here: C lends them one by one.)
 pub fn plan(
     head: Head,
     ground: &[u8],
@@ -22,10 +23,9 @@ pub fn plan(
         ≡ planned head (lent_with ground.now learned.old link.old)
         (scratch_with mark.old cost.old trail.old) }
 {
-    let verdict = plan_check(head, ground, learned, link, mark, cost, trail);
-    if let Verdict::Refused(why) = verdict {
+    if let Err(why) = plan_check(head, ground, learned, link, mark, cost, trail) {
         return Planned {
-            head: head,
+            head,
             expanded: 0,
             outcome: Outcome::Refused(why),
         };

@@ -1,5 +1,6 @@
 -- One number serves refusal 2 for many buffers, and one serves refusal 3 for many cells: the least length, the largest cell.
 -- Assumes nothing.
+use Rattle.std.specs.Prelude.{Ok}
 use mathlib.Core.Path.{◌≡◌, refl, sym, ap, ◌∙◌}
 use mathlib.Core.Bool.{Bool, true, false, ◌||◌, or-false, or_assoc, or_self_left}
 use mathlib.Core.List.{List, [], ◌∷◌, ◌++◌}
@@ -12,14 +13,10 @@ use Rattle.model.specs.Plot.{cells}
 use Rattle.model.specs.Lent.{Lent, Scratch, buffers_of, scratch_buffers}
 use Rattle.model.specs.Head.{cells_of, cells_named}
 use Rattle.model.specs.Refusals.{too_short, any_short, any_outside, fits, check, acceptance}
-use Rattle.model.specs.Sound.{sound}
 use Rattle.model.specs.Layout.{layout_check}
 use Rattle.model.specs.Plan.{plan_check}
 use Rattle.model.specs.declared.Head.{Head}
-use Rattle.model.specs.declared.Verdict.{Verdict}
-use Rattle.model.specs.declared.Verdict.TheVariants.{Accepted, Refused}
-use Rattle.model.specs.declared.Reason.{Reason}
-use Rattle.model.specs.declared.Reason.TheVariants.{Unsound}
+use Rattle.model.specs.Verdict.{Verdict}
 use Rattle.model.proofs.Lists.Bools.{make_or, or_false as both_false}
 use Rattle.model.proofs.Calls.Acceptance.{room_lent, both_on, fits_passed}
 use Rattle.checks.specs.Given.{Given}
@@ -29,11 +26,11 @@ use Rattle.model.proofs.Lists.Scans.{same_test}
 -- The least length, the largest cell ------------------------------------------------------------------------------------------
 
 -- buffers whose shortest has `room` entries, as far as refusal 2 asks; and cells whose farthest is `far`, as far as 3 asks
-record Shortest (room : ℕ) (buffers : List (List ℕ)) : Type 0 where
-  short : (n : ℕ) → ltb room n ≡ any_short n buffers
+pub record Shortest (room : ℕ) (buffers : List (List ℕ)) : Type 0 where
+  pub short : (n : ℕ) → ltb room n ≡ any_short n buffers
 
-record Farthest (far : ℕ) (named : List ℕ) : Type 0 where
-  outside : (n : ℕ) → leb n far ≡ any_outside n named
+pub record Farthest (far : ℕ) (named : List ℕ) : Type 0 where
+  pub outside : (n : ℕ) → leb n far ≡ any_outside n named
 
 pub long : (n : ℕ) → length (blank n) ≡ n
 unfolding blank
@@ -66,10 +63,10 @@ shortest_one {l} = record { short = λ n. sym (or-false (too_short n l)) }
 shortest_more : {x a : ℕ} {l : List ℕ} {ls : List (List ℕ)} → x ≡ min (length l) a → Shortest a ls → Shortest x (l ∷ ls)
 shortest_more {x} {a} {l} e s = record { short = λ n. rw (e, min_short n (length l) a, s.short n) }
 
-farthest_one : {c : ℕ} → Farthest c (c ∷ [])
+pub farthest_one : {c : ℕ} → Farthest c (c ∷ [])
 farthest_one {c} = record { outside = λ n. sym (or-false (leb n c)) }
 
-farthest_more : {x c d : ℕ} {cs : List ℕ} → x ≡ max c d → Farthest d cs → Farthest x (c ∷ cs)
+pub farthest_more : {x c d : ℕ} {cs : List ℕ} → x ≡ max c d → Farthest d cs → Farthest x (c ∷ cs)
 farthest_more {x} {c} {d} e s = record { outside = λ n. rw (e, max_outside n c d, s.outside n) }
 
 -- a further buffer of that length
@@ -94,24 +91,24 @@ check_same : (head : Head) (p : Lent) (bs cs : List (List ℕ)) (named more : Li
 unfolding check
 check_same head p bs cs named more e f = rw (fits_same head.width head.height bs cs named more e f)
 
--- what is lent, with the lengths as code takes their least
-shortest_lent : {a b : ℕ} (p : Lent) → a ≡ min (length p.learned) (length p.link) → b ≡ min (length p.ground) a → Shortest b (buffers_of p)
-shortest_lent p e f = shortest_more f (shortest_more e shortest_one)
+-- what is lent, with the least of its lengths
+pub shortest_lent : {room : ℕ} (p : Lent) → room ≡ min (length p.ground) (min (length p.learned) (length p.link)) → Shortest room (buffers_of p)
+shortest_lent p e = shortest_more e (shortest_more refl shortest_one)
 
-pub layout_by : {v : Verdict} {a b far : ℕ} (w h start goal : ℕ) (p : Lent) → a ≡ min (length p.learned) (length p.link)
-    → b ≡ min (length p.ground) a → far ≡ max goal start → v ≡ fits_within w h b far → v ≡ layout_check w h start goal p
+pub layout_by : {v : Verdict} {room far : ℕ} (w h start goal : ℕ) (p : Lent) → v ≡ fits_within w h room far
+    → room ≡ min (length p.ground) (min (length p.learned) (length p.link)) → far ≡ max goal start → v ≡ layout_check w h start goal p
 unfolding layout_check
-layout_by w h start goal p e f g r = r ∙ fits_by w h (shortest_lent p e f) (farthest_more g farthest_one)
+layout_by w h start goal p r e f = r ∙ fits_by w h (shortest_lent p e) (farthest_more f farthest_one)
 
 module _ (head : Head) (p : Lent) where
-  -- refusals 1 to 3 as code asks them; what they leave; and the verdict that they or the test of soundness give
-  pub with_by : {v : Verdict} {a b room c far : ℕ} (spare also : ℕ) → a ≡ min (length p.learned) (length p.link)
-      → b ≡ min (length p.ground) a → room ≡ min spare b → c ≡ max head.goal head.cell → far ≡ max also c
-      → v ≡ fits_within head.width head.height room far → v ≡ fits_with head p spare also
-  with_by spare also e f g k m r =
-      r ∙ fits_by head.width head.height (shortest_spare spare g (shortest_lent p e f)) (farthest_more m (farthest_more k farthest_one))
+  -- refusals 1 to 3 as code asks them, and what they leave
+  pub with_by : {v : Verdict} {room far : ℕ} (spare also : ℕ) → v ≡ fits_within head.width head.height room far
+      → room ≡ min spare (min (length p.ground) (min (length p.learned) (length p.link))) → far ≡ max also (max head.goal head.cell)
+      → v ≡ fits_with head p spare also
+  with_by spare also r e f =
+      r ∙ fits_by head.width head.height (shortest_spare spare e (shortest_lent p refl)) (farthest_more f (farthest_more refl farthest_one))
 
-  pub with_given : (spare also : ℕ) → fits_with head p spare also ≡ Accepted → Given head p.ground p.learned p.link
+  pub with_given : (spare also : ℕ) → fits_with head p spare also ≡ Ok tt → Given head p.ground p.learned p.link
   with_given spare also e =
       let f = fits_passed head.width head.height (blank spare ∷ buffers_of p) (also ∷ cells_named head) e in
       let on = both_on head.width head.height head.goal head.cell (both_false (leb (cells_of head) also) _ f.2).1 in
@@ -122,18 +119,6 @@ module _ (head : Head) (p : Lent) where
         room = room_lent (cells_of head) p (both_false (too_short (cells_of head) (blank spare)) _ f.1).1;
       }
 
-  pub with_refused : (spare also : ℕ) (why : Reason) → fits_with head p spare also ≡ Refused why → Refused why ≡ check_with head p spare also
-  unfolding check
-  with_refused spare also why e = rw e
-
-  pub with_sound : (spare also : ℕ) → fits_with head p spare also ≡ Accepted → sound head p ≡ true → Accepted ≡ check_with head p spare also
-  unfolding check
-  with_sound spare also e f = rw (e, f)
-
-  pub with_unsound : (spare also : ℕ) → fits_with head p spare also ≡ Accepted → sound head p ≡ false → Refused Unsound ≡ check_with head p spare also
-  unfolding check
-  with_unsound spare also e f = rw (e, f)
-
   -- the first buffer's length again, and the goal again, ask nothing new
   spare_ground : (n : ℕ) → any_short n (blank (length p.ground) ∷ buffers_of p) ≡ any_short n (buffers_of p)
   spare_ground n = rw (long (length p.ground)) (or_self_left (too_short n p.ground) _)
@@ -142,20 +127,20 @@ module _ (head : Head) (p : Lent) where
   also_goal n = or_self_left (leb n head.goal) _
 
   -- each call's verdict from the shared one
-  pub accepts_by : {v : Verdict} → v ≡ check_with head p (length p.ground) head.goal → v ≡ acceptance head p
-  accepts_by r =
-      r ∙ check_same head p (blank (length p.ground) ∷ buffers_of p) (buffers_of p) (head.goal ∷ cells_named head) (cells_named head)
+  pub accepts_by : check_with head p (length p.ground) head.goal ≡ acceptance head p
+  accepts_by =
+      check_same head p (blank (length p.ground) ∷ buffers_of p) (buffers_of p) (head.goal ∷ cells_named head) (cells_named head)
       (spare_ground (cells_of head)) (also_goal (cells_of head))
 
-  pub report_by : {v : Verdict} (c : ℕ) → v ≡ check_with head p (length p.ground) c → v ≡ check head p (buffers_of p) (c ∷ cells_named head)
-  report_by c r =
-      r ∙ check_same head p (blank (length p.ground) ∷ buffers_of p) (buffers_of p) (c ∷ cells_named head) (c ∷ cells_named head)
+  pub report_by : (c : ℕ) → check_with head p (length p.ground) c ≡ check head p (buffers_of p) (c ∷ cells_named head)
+  report_by c =
+      check_same head p (blank (length p.ground) ∷ buffers_of p) (buffers_of p) (c ∷ cells_named head) (c ∷ cells_named head)
       (spare_ground (cells_of head)) refl
 
-  pub plan_by : {v : Verdict} {a spare : ℕ} (s : Scratch) → a ≡ min (length s.cost) (length s.trail) → spare ≡ min (length s.mark) a
-      → v ≡ check_with head p spare head.goal → v ≡ plan_check head p s
+  pub plan_by : {v : Verdict} {spare : ℕ} (s : Scratch) → v ≡ check_with head p spare head.goal
+      → spare ≡ min (length s.mark) (min (length s.cost) (length s.trail)) → v ≡ plan_check head p s
   unfolding plan_check
-  plan_by {spare = spare} s e f r =
-      let t : Shortest spare (scratch_buffers s) = shortest_more f (shortest_more e shortest_one) in
+  plan_by {spare = spare} s r e =
+      let t : Shortest spare (scratch_buffers s) = shortest_more e (shortest_more refl shortest_one) in
       r ∙ check_same head p (blank spare ∷ buffers_of p) (scratch_buffers s ++ buffers_of p) (head.goal ∷ cells_named head) (cells_named head)
       (rw (long spare, t.short (cells_of head)) (sym (any_join (cells_of head) (scratch_buffers s) (buffers_of p)))) (also_goal (cells_of head))

@@ -3,3 +3,4 @@ pub mod SharedTests
 pub mod Rest
 pub mod Given
 pub mod Flat
+pub mod Passes

@@ -4,7 +4,7 @@ use Rattle.model.specs.Lent.{Lent, buffers_of}
 use Rattle.model.specs.Head.{cells_named}
 use Rattle.model.specs.Refusals.{fits, check}
 use Rattle.model.specs.declared.Head.{Head}
-use Rattle.model.specs.declared.Verdict.{Verdict}
+use Rattle.model.specs.Verdict.{Verdict}
 
 unfoldable pub blank : ℕ → List ℕ
 blank n = replicate n 0

@@ -6,48 +6,54 @@
 pub mod rest;
 pub mod sound;
 
-ghost use Rattle.std.specs.Prelude.{◌≡◌, min, max};
+ghost use Rattle.std.specs.Prelude.{◌≡◌};
 ghost use Rattle.model.specs.Lent.{lent_with, scratch_with};
 ghost use Rattle.model.specs.Refusals.{acceptance};
 ghost use Rattle.model.specs.Layout.{layout_check};
 ghost use Rattle.model.specs.Report.{report_check};
 ghost use Rattle.model.specs.Plan.{plan_check};
-ghost use Rattle.checks.specs.SharedTests.{fits_within, check_with};
+ghost use Rattle.checks.specs.SharedTests.{fits_within, fits_with, check_with};
 
 use crate::sound::sound;
-use model::{Head, Reason, Verdict};
-
-fn min(a: usize, b: usize) -> usize
-    ensures { result ≡ min a b }
-{
-    if a < b { a } else { b }
-}
-
-fn max(a: usize, b: usize) -> usize
-    ensures { result ≡ max a b }
-{
-    if a < b { b } else { a }
-}
+use model::{Head, Reason};
 
 // Refusals 1 to 3: room is the length of the shortest buffer, far the farthest cell that is named. One number for each, so
-// that every call asks the same three questions. The product is taken once the sides are good: it fits then.
-fn fits_within(width: usize, height: usize, room: usize, far: usize) -> Verdict
+// that every call asks the same three questions. The product is taken once the sides are good: it fits then, and there is a plot.
+#[tactic(auto, unfolding(model::specs::Refusals::fits, crate::specs::SharedTests::blank))]
+fn fits_within(width: usize, height: usize, room: usize, far: usize) -> Result<(), Reason>
     ensures { result ≡ fits_within width height room far }
 {
     if Head::bad_sides(width, height) {
-        return Verdict::Refused(Reason::Sides);
+        return Err(Reason::Sides);
     }
     let n = width * height;
     if room < n {
-        return Verdict::Refused(Reason::Short);
+        return Err(Reason::Short);
     }
     if n <= far {
-        return Verdict::Refused(Reason::Outside);
+        return Err(Reason::Outside);
     }
-    Verdict::Accepted
+    Ok(())
 }
 
-// Refusals 1 to 4: spare is the length of the shortest further buffer, also one more cell that is named.
+// The same, of what a call lends: spare is the length of the shortest further buffer, also one more cell that is named.
+fn fits_with(
+    head: Head,
+    ground: &[u8],
+    learned: &[u16],
+    link: &[u8],
+    spare: usize,
+    also: usize,
+) -> Result<(), Reason>
+    ensures { result ≡ fits_with head (lent_with ground.now learned.now link.now) spare also }
+{
+    let room = spare.min(ground.len()).min(learned.len()).min(link.len());
+    let far = also.max(head.goal).max(head.cell);
+    fits_within(head.width, head.height, room, far)
+}
+
+// Refusals 1 to 4.
+#[tactic(auto, unfolding(model::specs::Refusals::check))]
 fn check_with(
     head: Head,
     ground: &[u8],
@@ -55,23 +61,18 @@ fn check_with(
     link: &[u8],
     spare: usize,
     also: usize,
-) -> Verdict
+) -> Result<(), Reason>
     ensures { result ≡ check_with head (lent_with ground.now learned.now link.now) spare also }
 {
-    let room = min(spare, min(ground.len(), min(learned.len(), link.len())));
-    let far = max(also, max(head.goal, head.cell));
-    let verdict = fits_within(head.width, head.height, room, far);
-    if let Verdict::Refused(why) = verdict {
-        return Verdict::Refused(why);
-    }
+    fits_with(head, ground, learned, link, spare, also)?;
     if sound(head, ground, learned, link) {
-        return Verdict::Accepted;
+        return Ok(());
     }
-    Verdict::Refused(Reason::Unsound)
+    Err(Reason::Unsound)
 }
 
 // Whether the data are accepted. Nothing further is lent or named: ground and the goal, which are asked anyway, stand in.
-pub fn acceptance(head: Head, ground: &[u8], learned: &[u16], link: &[u8]) -> Verdict
+pub fn acceptance(head: Head, ground: &[u8], learned: &[u16], link: &[u8]) -> Result<(), Reason>
     ensures { result ≡ acceptance head (lent_with ground.now learned.now link.now) }
 {
     check_with(head, ground, learned, link, ground.len(), head.goal)
@@ -86,28 +87,31 @@ pub fn layout_check(
     ground: &[u8],
     learned: &[u16],
     link: &[u8],
-) -> Verdict
+) -> Result<(), Reason>
     ensures { result ≡ layout_check width height start goal (lent_with ground.now learned.now link.now) }
 {
-    let room = min(ground.len(), min(learned.len(), link.len()));
-    fits_within(width, height, room, max(goal, start))
+    let room = ground.len().min(learned.len()).min(link.len());
+    fits_within(width, height, room, goal.max(start))
 }
 
 // Whether report is refused: 5 comes last.
-pub fn report_check(head: Head, ground: &[u8], learned: &[u16], link: &[u8], c: usize) -> Verdict
+pub fn report_check(
+    head: Head,
+    ground: &[u8],
+    learned: &[u16],
+    link: &[u8],
+    c: usize,
+) -> Result<(), Reason>
     ensures { result ≡ report_check head (lent_with ground.now learned.now link.now) c }
 {
-    let verdict = check_with(head, ground, learned, link, ground.len(), c);
-    if let Verdict::Refused(why) = verdict {
-        return Verdict::Refused(why);
-    }
+    check_with(head, ground, learned, link, ground.len(), c)?;
     if c == head.cell {
-        return Verdict::Refused(Reason::OwnCell);
+        return Err(Reason::OwnCell);
     }
-    Verdict::Accepted
+    Ok(())
 }
 
-// Whether plan is refused: scratch is lent too.
+// Whether plan is refused: scratch is lent too, list by list, as C lends it.
 pub fn plan_check(
     head: Head,
     ground: &[u8],
@@ -116,10 +120,10 @@ pub fn plan_check(
     mark: &[u8],
     cost: &[u16],
     trail: &[u8],
-) -> Verdict
+) -> Result<(), Reason>
     ensures { result ≡ plan_check head (lent_with ground.now learned.now link.now)
         (scratch_with mark.now cost.now trail.now) }
 {
-    let spare = min(mark.len(), min(cost.len(), trail.len()));
+    let spare = mark.len().min(cost.len()).min(trail.len());
     check_with(head, ground, learned, link, spare, head.goal)
 }

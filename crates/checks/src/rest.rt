@@ -4,18 +4,19 @@ ghost use Rattle.model.specs.Plot.{max_cells};
 ghost use Rattle.model.specs.Head.{cells_of};
 ghost use Rattle.checks.specs.Rest.{report_rest};
 
-use model::{Head, Reason, Verdict};
+use model::{Head, Reason};
 
 // Report: 3 for the reported cell, and 5.
-pub fn report_rest(head: Head, c: usize) -> Verdict
+#[tactic(auto, unfolding(crate::specs::Rest::report_rest))]
+pub fn report_rest(head: Head, c: usize) -> Result<(), Reason>
     requires { cells_of head ≤ max_cells }
     ensures { result ≡ report_rest head c }
 {
     if head.width * head.height <= c {
-        return Verdict::Refused(Reason::Outside);
+        return Err(Reason::Outside);
     }
     if c == head.cell {
-        return Verdict::Refused(Reason::OwnCell);
+        return Err(Reason::OwnCell);
     }
-    Verdict::Accepted
+    Ok(())
 }

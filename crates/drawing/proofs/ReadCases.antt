@@ -1,6 +1,6 @@
 -- What is read and laid out, and found to look so or not, is the answer that the definition has.
 -- Assumes nothing.
-use Prim.Native.Nat.{ℕ, ◌+◌, ◌-◌, ◌*◌, ◌≤◌, ◌<◌}
+use Prim.Native.Nat.{ℕ, ◌+◌, ◌*◌, ◌≤◌, ◌<◌}
 use mathlib.Core.Path.{◌≡◌, refl, sym, ap, ◌∙◌}
 use mathlib.Core.Logic.{◌≢◌}
 use mathlib.Core.Bool.{true, false, not, ◌&&◌, false≢true}
@@ -9,8 +9,8 @@ use native.Mathlib.Nat.{mul_comm}
 use native.Mathlib.Omega.{arith}
 use borrow.Author.Tests.{eq-eqb, ne_eqb, not-true}
 use lib.Dec.{eqb}
-use lib.ListN.{length, get_or, take, drop, length-drop}
-use lib.Seq.{take_all}
+use lib.ListN.{length, get_or}
+use Rattle.std.specs.Prelude.{Some, None}
 use Rattle.model.specs.Lists.{filled, gathered}
 use Rattle.model.specs.Plot.{max_cells, bad_sides}
 use Rattle.model.specs.Head.{cells_of}
@@ -21,8 +21,7 @@ use Rattle.model.proofs.Lists.Filled.{length_filled, filled_at}
 use Rattle.model.proofs.Lists.Gathered.{gathered_same, get_d_gathered}
 use Rattle.model.proofs.Calls.Acceptance.{cells_few, both_on}
 use Rattle.drawing.specs.Drawing.{character, cell_text, row_text, text, fine, behind, truth_in, drawing_in, well_formed, drawn_in, Drew}
-use Rattle.drawing.specs.Reading.{Headed, on_plot, drawn_as}
-use Rattle.drawing.specs.declared.Drawn.{Drawn}
+use Rattle.drawing.specs.Reading.{on_plot, drawn_as}
 use Rattle.drawing.proofs.text.TextWritten.{rows_within}
 
 -- single entries, gathered
@@ -70,16 +69,16 @@ pub record TruthFilled (bytes : List ℕ) (head : Head) (truth : List ℕ) : Typ
   pub agrees : (c : ℕ) → c < cells_of head → get_or truth c 0 ≡ get_or (drawing_in bytes).truth c 0
 
 module _ (bytes : List ℕ) {truth : List ℕ} where
-  bad : well_formed bytes ≡ false → Drew bytes Drawn.Bad truth
+  bad : well_formed bytes ≡ false → Drew bytes None truth
   unfolding drawn_in
   bad e = record { is = rw (drawn_in, e) refl; in_truth = λ t. absurd (false≢true (sym e ∙ t)) }
 
-  unfine : fine (drawing_in bytes) ≡ false → Drew bytes Drawn.Bad truth
+  unfine : fine (drawing_in bytes) ≡ false → Drew bytes None truth
   unfolding well_formed
   unfine e = bad (rw (well_formed, e) refl)
 
-  pub bad_off : {head : Head} {rows : ℕ} → Headed bytes head rows → on_plot head ≡ false → Drew bytes Drawn.Bad truth
-  bad_off h e = unfine (fine_is (drawing_in bytes).head (drawing_in bytes).truth ∙ rw (← h.is, e) refl)
+  pub bad_off : {head : Head} → head ≡ (drawing_in bytes).head → on_plot head ≡ false → Drew bytes None truth
+  bad_off is e = unfine (fine_is (drawing_in bytes).head (drawing_in bytes).truth ∙ rw (← is, e) refl)
 
   module _ {head : Head} (l : TruthFilled bytes head truth) where
     start_same : get_or truth head.cell 0 ≡ get_or (drawing_in bytes).truth (drawing_in bytes).head.cell 0
@@ -88,7 +87,7 @@ module _ (bytes : List ℕ) {truth : List ℕ} where
     on_it : on_plot (drawing_in bytes).head ≡ true
     on_it = rw l.is at l.on
 
-    pub bad_start : get_or truth head.cell 0 ≢ 0 → Drew bytes Drawn.Bad truth
+    pub bad_start : get_or truth head.cell 0 ≢ 0 → Drew bytes None truth
     bad_start f =
         unfine (fine_is (drawing_in bytes).head (drawing_in bytes).truth
         ∙ rw (on_it, ne_eqb (get_or (drawing_in bytes).truth (drawing_in bytes).head.cell 0) 0 (λ e. f (start_same ∙ e))) refl)
@@ -105,46 +104,36 @@ module _ (bytes : List ℕ) {truth : List ℕ} where
           ∙ rw (on_it, eq-eqb (get_or (drawing_in bytes).truth (drawing_in bytes).head.cell 0) 0 (sym start_same ∙ free)) refl in
           rw (well_formed, good, looks) refl
 
-      pub bad_looks : same bytes (text (drawn_as head truth)) ≡ false → Drew bytes Drawn.Bad truth
+      pub bad_looks : same bytes (text (drawn_as head truth)) ≡ false → Drew bytes None truth
       bad_looks e = bad (decides ∙ e)
 
-      pub drawn : same bytes (text (drawn_as head truth)) ≡ true → Drew bytes (Drawn.Plot head) truth
+      pub drawn : same bytes (text (drawn_as head truth)) ≡ true → Drew bytes (Some head) truth
       unfolding drawn_in
       drawn e = record { is = rw (drawn_in, decides, e, ← l.is) refl; in_truth = λ _ c i. l.agrees c (rw l.is i) }
 
--- the true ground as it was laid, out of the part that begins with the rows
-module _ (bytes : List ℕ) {head : Head} {rows : ℕ} (truth₀ : List ℕ) {truth : List ℕ} (h : Headed bytes head rows) (on : on_plot head ≡ true)
-    (e : truth ≡ filled (cells_of head) (truth_in head.width (take (length bytes - rows) (drop rows bytes))) truth₀)
-    (room : max_cells ≤ length truth₀) where
+-- the true ground as it was laid, out of the rows
+module _ (bytes : List ℕ) {head : Head} {rows : List ℕ} (truth₀ : List ℕ) {truth : List ℕ} (is : head ≡ (drawing_in bytes).head)
+    (rest : rows ≡ behind (behind (behind (behind bytes)))) (on : on_plot head ≡ true)
+    (e : truth ≡ filled (cells_of head) (truth_in head.width rows) truth₀) (room : max_cells ≤ length truth₀) where
   few : cells_of head ≤ max_cells
   few = cells_few head.width head.height (on_sides_good head on)
 
   pub laid_room : cells_of head ≤ length truth
-  laid_room =
-      omega (arith, few, ap length e, length_filled (cells_of head) (truth_in head.width (take (length bytes - rows) (drop rows bytes))) truth₀)
-
-  part : List ℕ
-  part = take (length bytes - rows) (drop rows bytes)
-
-  part_is : part ≡ behind (behind (behind (behind bytes)))
-  unfolding part
-  part_is = take_all (length bytes - rows) (drop rows bytes) (omega (arith, length-drop rows bytes)) ∙ h.rest
-
-  read_as : (c : ℕ) → truth_in head.width part c ≡ truth_in (drawing_in bytes).head.width (behind (behind (behind (behind bytes)))) c
-  read_as c = rw (part_is, h.is) refl
+  laid_room = omega (arith, few, ap length e, length_filled (cells_of head) (truth_in head.width rows) truth₀)
 
   inside : (c : ℕ) → c < cells_of head → c < cells_of (drawing_in bytes).head
-  inside c i = rw h.is at i
+  inside c i = rw is at i
 
   pub laid : TruthFilled bytes head truth
-  unfolding drawing_in part truth_in
+  unfolding drawing_in truth_in
   laid =
       record {
-        is = h.is;
+        is = is;
         on = on;
         agrees = λ c i.
-            rw e (filled_at (cells_of head) (truth_in head.width part) truth₀ (omega (arith, few)) c i)
-            ∙ read_as c
+            rw e (filled_at (cells_of head) (truth_in head.width rows) truth₀ (omega (arith, few)) c i)
+            ∙ ap (λ (k : Head). truth_in k.width rows c) is
+            ∙ ap (λ (l : List ℕ). truth_in (drawing_in bytes).head.width l c) rest
             ∙ sym
             (singles (truth_in (drawing_in bytes).head.width (behind (behind (behind (behind bytes))))) (cells_of (drawing_in bytes).head) c
             (inside c i));

@@ -1,5 +1,5 @@
 -- "`drive` reads standard input: a line "W H start goal", then H lines of W characters, `.` free and `#` blocked: the true ground."
-use Rattle.std.specs.Prelude.{ℕ, ◌+◌, ◌-◌, ◌*◌, ◌/◌, ◌<◌, ◌≡◌, Bool, true, not, cond, ◌&&◌, List, [], ◌∷◌, ◌++◌, get_or, leb, ltb, eqb}
+use Rattle.std.specs.Prelude.{ℕ, ◌+◌, ◌-◌, ◌*◌, ◌/◌, ◌<◌, ◌≡◌, Bool, true, not, cond, ◌&&◌, Option, Some, None, List, [], ◌∷◌, ◌++◌, get_or, leb, ltb, eqb}
 use Rattle.model.specs.Lists.{gathered}
 use Rattle.model.specs.Plot.{bad_sides}
 use Rattle.model.specs.Head.{head_at, cells_of, cells_named}
@@ -7,7 +7,6 @@ use Rattle.model.specs.Refusals.{any_outside}
 use Rattle.model.specs.Record.{same}
 use Rattle.model.specs.declared.Head.{Head}
 use Rattle.printing.specs.Text.{line_feed, space, hash, dot, number}
-use Rattle.drawing.specs.declared.Drawn.{Drawn}
 
 -- the plot, with the cart on the start, and the true ground: 0 free, 1 blocked
 pub record Drawing : Type 0 where
@@ -80,11 +79,11 @@ drawing_in bytes =
 unfoldable pub well_formed : List ℕ → Bool
 well_formed bytes = fine (drawing_in bytes) && same bytes (text (drawing_in bytes))
 
--- what the reader answers: the plot with the cart on the start, or "bad input"
-unfoldable pub drawn_in : List ℕ → Drawn
-drawn_in bytes = cond (well_formed bytes) (Drawn.Plot (drawing_in bytes).head) Drawn.Bad
+-- what the reader answers: the plot with the cart on the start, or none, which is "bad input"
+unfoldable pub drawn_in : List ℕ → Option Head
+drawn_in bytes = cond (well_formed bytes) (Some (drawing_in bytes).head) None
 
 -- and what it leaves: the true ground, on every cell of the plot
-pub record Drew (bytes : List ℕ) (answer : Drawn) (truth : List ℕ) : Type 0 where
+pub record Drew (bytes : List ℕ) (answer : Option Head) (truth : List ℕ) : Type 0 where
   pub is : answer ≡ drawn_in bytes
   pub in_truth : well_formed bytes ≡ true → (c : ℕ) → c < cells_of (drawing_in bytes).head → get_or truth c 0 ≡ get_or (drawing_in bytes).truth c 0

@@ -8,38 +8,11 @@ pub mod text;
 ghost use Rattle.std.specs.Prelude.{◌≡◌, true, ◌<◌, ◌≤◌, ◌*◌, length};
 ghost use Rattle.model.specs.Lists.{filled};
 ghost use Rattle.model.specs.Plot.{max_cells};
-ghost use Rattle.drawing.specs.Drawing.{is_digit, grown, truth_at, truth_in, Drew};
-ghost use Rattle.drawing.specs.Reading.{Numbered, Headed, on_plot};
+ghost use Rattle.drawing.specs.Drawing.{is_digit, grown, value, behind, truth_at, truth_in, drawing_in, Drew};
+ghost use Rattle.drawing.specs.Reading.{on_plot};
 
 use crate::text::is_text;
 use model::Head;
-
-// The plot with the cart on the start, or "bad input".
-#[derive(Clone, Copy)]
-pub enum Drawn {
-    Plot(Head),
-    Bad,
-}
-
-// A number that was read, and the place behind it and one character more.
-#[derive(Clone, Copy)]
-struct Figure {
-    value: usize,
-    next: usize,
-}
-
-// The numbers of the first line, and the place of the first row.
-#[derive(Clone, Copy)]
-struct FirstLine {
-    head: Head,
-    rows: usize,
-}
-
-fn is_digit(byte: u8) -> bool
-    ensures { result ≡ is_digit byte }
-{
-    (48 <= byte) & (byte <= 57)
-}
 
 // One digit more.
 fn grown(value: usize, byte: u8) -> usize
@@ -47,39 +20,38 @@ fn grown(value: usize, byte: u8) -> usize
     ensures { (result ≡ grown value byte) × (result < 100000) }
 {
     if value < 10000 {
-        return value * 10 + (byte - 48) as usize;
+        return value * 10 + (byte - b'0') as usize;
     }
     value
 }
 
-fn number(bytes: &[u8], at: usize) -> Figure
-    requires { at ≤ length bytes.now }
-    ensures { Numbered bytes.now at result.value result.next }
+// The number at the front, and what comes behind it and one character more. (No `parse`: any bytes are read, and loosely.)
+fn number(bytes: &[u8]) -> (usize, &[u8])
+    ensures value { result.0 ≡ value 0 bytes.now }
+    ensures rest { result.1.now ≡ behind bytes.now }
 {
     let mut value = 0;
-    let mut i = at;
-    while i < bytes.len() {
-        let byte = bytes[i];
-        if !is_digit(byte) {
-            return Figure { value, next: i + 1 };
+    let mut rest = bytes;
+    while let Some((byte, behind)) = rest.split_first() {
+        if !byte.is_ascii_digit() {
+            return (value, behind);
         }
-        value = grown(value, byte);
-        i += 1;
+        value = grown(value, *byte);
+        rest = behind;
     }
-    Figure { value, next: i }
+    (value, rest)
 }
 
-fn first_line(bytes: &[u8]) -> FirstLine
-    ensures { Headed bytes.now result.head result.rows }
+// The head that the first line says, and the rows.
+fn first_line(bytes: &[u8]) -> (Head, &[u8])
+    ensures head { result.0 ≡ (drawing_in bytes.now).head }
+    ensures rows { result.1.now ≡ behind (behind (behind (behind bytes.now))) }
 {
-    let width = number(bytes, 0);
-    let height = number(bytes, width.next);
-    let start = number(bytes, height.next);
-    let goal = number(bytes, start.next);
-    FirstLine {
-        head: Head::new(width.value, height.value, goal.value, start.value),
-        rows: goal.next,
-    }
+    let (width, rest) = number(bytes);
+    let (height, rest) = number(rest);
+    let (start, rest) = number(rest);
+    let (goal, rows) = number(rest);
+    (Head::new(width, height, goal, start), rows)
 }
 
 fn on_plot(head: Head) -> bool
@@ -96,10 +68,10 @@ fn on_plot(head: Head) -> bool
 fn truth_at(rows: &[u8], at: usize) -> u8
     ensures { result ≡ truth_at rows.now at }
 {
-    if rows.len() <= at {
-        return 0;
+    match rows.get(at) {
+        Some(b'#') => 1,
+        _ => 0,
     }
-    if rows[at] == 35 { 1 } else { 0 }
 }
 
 // The true ground of the first n cells, out of rows of w characters and a line feed.
@@ -107,31 +79,27 @@ fn fill_truth(rows: &[u8], w: usize, n: usize, truth: &mut [u8])
     requires { (0 < w) × (n ≤ max_cells) × (n ≤ length truth.old) }
     ensures { truth.new ≡ filled n (truth_in w rows.now) truth.old }
 {
-    let mut c = 0;
-    while c < n {
+    for c in 0..n {
         truth[c] = truth_at(rows, c + c / w);
-        c += 1;
     }
 }
 
-// Whether the bytes are a drawing: then its true ground is left in truth.
-pub fn read(bytes: &[u8], truth: &mut [u8]) -> Drawn
+// The plot with the cart on the start, and its true ground in truth; or none, where the bytes are no drawing. (Truth is in bytes, as the
+// ground that C lends, and of any length that serves: an array would ask for just so many.)
+pub fn read(bytes: &[u8], truth: &mut [u8]) -> Option<Head>
     requires { max_cells ≤ length truth.old }
     ensures { Drew bytes.now result truth.new }
 {
-    let found = first_line(bytes);
-    let head = found.head;
+    let (head, rows) = first_line(bytes);
     if !on_plot(head) {
-        return Drawn::Bad;
+        return None;
     }
-    let rows = found.rows;
-    fill_truth(&bytes[rows..], head.width, head.width * head.height, truth);
-    let start = head.cell;
-    if truth[start] != 0 {
-        return Drawn::Bad;
+    fill_truth(rows, head.width, head.width * head.height, truth);
+    if truth[head.cell] != 0 {
+        return None;
     }
     if is_text(bytes, head, truth) {
-        return Drawn::Plot(head);
+        return Some(head);
     }
-    Drawn::Bad
+    None
 }

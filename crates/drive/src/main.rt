@@ -2,22 +2,25 @@
 
 #![tactic(auto)]
 
-ghost use Rattle.std.specs.Prelude.{◌≡◌, ◌+◌, ◌<◌, ◌≤◌, length, IfOk};
+ghost use Rattle.std.specs.Prelude.{◌≡◌, ◌+◌, ◌≤◌, length, Ok, OnOk};
 ghost use Rattle.model.specs.Plot.{max_cells};
-ghost use Rattle.model.specs.Lent.{lent_with, scratch_with};
 ghost use Rattle.model.specs.Plan.{plan_check};
-ghost use Rattle.model.specs.declared.Verdict.TheVariants.{Accepted};
+ghost use Rattle.search.specs.LentLists.{scratch_of};
 ghost use Rattle.printing.specs.Lines.{longest_line};
+ghost use Rattle.printing.specs.Pages.{SamePage};
+ghost use Rattle.turn.specs.Held.{lent_of};
 
 use calls::layout::layout;
 use checks::plan_check;
+use drawing::read;
 use drawing::text::ROWS;
-use drawing::{Drawn, read};
-use model::{Head, Verdict};
-use printing::lines::{LONGEST_LINE, is_last, put_line};
+use model::Head;
+use printing::Page;
+use printing::lines::Line;
 use reading::read_full;
+use search::{Scratch, Workspace};
 use std::io;
-use turn::turn;
+use turn::Drive;
 
 // The longest drawing: "64 64 4095 4095" and a line feed, and the rows.
 const LONGEST: usize = 16 + ROWS;
@@ -25,59 +28,54 @@ const LONGEST: usize = 16 + ROWS;
 // So many bytes may wait to be written.
 const WAITING: usize = 8192;
 
-// Writes the first bytes where there may be no room for one more line, and answers how many wait then.
-fn flush(rt: &impl Print, out: &[u8], waiting: usize) -> io::Result<usize>
-    requires { (waiting ≤ length out.now) × (longest_line ≤ length out.now) }
-    ensures { IfOk result (λ waits. waits + longest_line ≤ length out.now) }
+// Writes what waits on the page where there may be no room for one more line.
+fn flush(rt: &impl Print, page: &mut Page<'_>) -> io::Result<()>
+    requires { (page.old.length ≤ length page.old.bytes.now) × (longest_line ≤ length page.old.bytes.now) }
+    ensures room { OnOk result (page.new.length + longest_line ≤ length page.new.bytes.now) }
+    ensures bytes { page.new.bytes.now ≡ page.old.bytes.now }
+    ensures same { SamePage page.old page.new }
 {
-    if out.len() - LONGEST_LINE < waiting {
-        rt.write_all(&out[..waiting])?;
-        return Ok(0);
+    if page.bytes.len() - Line::LONGEST < page.length {
+        rt.write_all(page.text())?;
+        page.length = 0;
     }
-    Ok(waiting)
+    Ok(())
 }
 
 // Turn by turn, until a line is the last one. The data were accepted, and stay so.
-fn tell(
-    rt: &impl Print,
-    head: Head,
-    truth: &[u8],
-    ground: &mut [u8],
-    learned: &mut [u16],
-    link: &mut [u8],
-    mark: &mut [u8],
-    cost: &mut [u16],
-    trail: &mut [u8],
-) -> io::Result<()>
-    requires { (plan_check head (lent_with ground.old learned.old link.old) (scratch_with mark.old cost.old trail.old) ≡ Accepted)
-        × (max_cells ≤ length truth.now) }
+fn tell(rt: &impl Print, drive: &mut Drive<'_>, truth: &[u8]) -> io::Result<()>
+    requires accepted { plan_check drive.old.head (lent_of drive.old) (scratch_of drive.old.scratch) ≡ Ok tt }
+    requires truth { max_cells ≤ length truth.now }
+    requires moves { drive.old.moves ≡ 0 }
 {
     let mut heap = [0u64; queue::ROOM];
     let mut place = [0u16; Head::MAX_CELLS];
     let mut gone = [0u8; Head::MAX_CELLS];
     let mut list = [0u16; Head::MAX_CELLS];
+    let mut space = Workspace {
+        heap: &mut heap,
+        place: &mut place,
+        gone: &mut gone,
+        list: &mut list,
+    };
     let mut out = [0u8; WAITING];
-    let mut waiting = 0;
-    let mut now = head;
-    let mut moves = 0;
-    let mut going = true;
-    while going {
-        let said = turn(
-            now, moves, truth, ground, learned, link, mark, cost, trail, &mut heap, &mut place,
-            &mut gone, &mut list,
-        );
-        let line = said.line;
-        waiting = put_line(&mut out, waiting, line);
-        waiting = flush(rt, &out, waiting)?;
-        now = said.head;
-        moves = said.moves;
-        going = !is_last(line);
+    let mut page = Page {
+        bytes: &mut out,
+        length: 0,
+    };
+    loop {
+        let line = drive.turn(truth, &mut space);
+        page.put_line(line);
+        flush(rt, &mut page)?;
+        if line.is_last() {
+            break;
+        }
     }
-    rt.write_all(&out[..waiting])
+    rt.write_all(page.text())
 }
 
 // A cart that knows nothing of the ground: soundness is tested once, and then the cores are used.
-fn drive(rt: &impl Print, head: Head, truth: &[u8]) -> io::Result<()>
+fn run(rt: &impl Print, head: Head, truth: &[u8]) -> io::Result<()>
     requires { max_cells ≤ length truth.now }
 {
     let mut ground = [0u8; Head::MAX_CELLS];
@@ -95,22 +93,24 @@ fn drive(rt: &impl Print, head: Head, truth: &[u8]) -> io::Result<()>
         &mut learned,
         &mut link,
     );
-    let first = laid.head;
-    let verdict = plan_check(first, &ground, &learned, &link, &mark, &cost, &trail);
-    if let Verdict::Refused(_) = verdict {
+    let head = laid.head;
+    if plan_check(head, &ground, &learned, &link, &mark, &cost, &trail).is_err() {
         return Ok(());
     }
-    tell(
-        rt,
-        first,
-        truth,
-        &mut ground,
-        &mut learned,
-        &mut link,
-        &mut mark,
-        &mut cost,
-        &mut trail,
-    )
+    let scratch = Scratch {
+        mark: &mut mark,
+        cost: &mut cost,
+        trail: &mut trail,
+    };
+    let mut drive = Drive {
+        head,
+        moves: 0,
+        ground: &mut ground,
+        learned: &mut learned,
+        link: &mut link,
+        scratch,
+    };
+    tell(rt, &mut drive, truth)
 }
 
 fn main(rt: HostRuntime) -> io::Result<()> {
@@ -118,9 +118,8 @@ fn main(rt: HostRuntime) -> io::Result<()> {
     let mut truth = [0u8; Head::MAX_CELLS];
     let got = read_full(&mut rt.stdin(), &mut bytes)?;
     if got <= LONGEST {
-        let drawn = read(&bytes[..got], &mut truth);
-        if let Drawn::Plot(head) = drawn {
-            return drive(&rt, head, &truth);
+        if let Some(head) = read(&bytes[..got], &mut truth) {
+            return run(&rt, head, &truth);
         }
     }
     println!(rt; "bad input")

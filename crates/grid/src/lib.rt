@@ -1,14 +1,15 @@
-// Steps on the plot: the opposite direction, and the cell ahead of a cell. `routes` follows links, `fills` fills lists.
+// Steps on the plot: `plot` has the plot itself, what lies ahead of a cell and where links lead, `routes` asks whether a
+// route stands.
 
 #![tactic(auto)]
 
-pub mod fills;
+pub mod plot;
 pub mod routes;
 
-ghost use Rattle.std.specs.Prelude.{◌≡◌, ◌%◌, ◌<◌, ◌≤◌};
-ghost use Rattle.model.specs.Plot.{cells, ahead, opposite};
+ghost use Rattle.std.specs.Prelude.{◌≡◌};
+ghost use Rattle.model.specs.Plot.{opposite};
 
-// The opposite direction.
+// The opposite direction. (Directions are bytes of the C interface, in link and trail: 1 right, 2 down, 3 left, 4 up.)
 pub fn opposite(d: u8) -> u8
     ensures { result ≡ opposite d }
 {
@@ -16,36 +17,4 @@ pub fn opposite(d: u8) -> u8
         return d + 2;
     }
     d - 2
-}
-
-// The cell ahead of c in direction d, or n; col is c's column. One division serves the four directions.
-pub fn ahead(width: usize, height: usize, n: usize, c: usize, col: usize, d: u8) -> usize
-    requires { (n ≡ cells width height) × (c < n) × (n ≤ 65535) × (width ≤ n) × (col ≡ c % width) }
-    ensures { result ≡ ahead width height c d }
-{
-    if d == 1 {
-        if col + 1 < width {
-            return c + 1;
-        }
-        return n;
-    }
-    if d == 2 {
-        if c + width < n {
-            return c + width;
-        }
-        return n;
-    }
-    if d == 3 {
-        if 0 < col {
-            return c - 1;
-        }
-        return n;
-    }
-    if d == 4 {
-        if width <= c {
-            return c - width;
-        }
-        return n;
-    }
-    n
 }

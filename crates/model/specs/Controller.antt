@@ -1,5 +1,5 @@
 -- For the C controller: report, plan and move over a record in the caller's bytes, answering one number.
-use Rattle.std.specs.Prelude.{ℕ, List, replicate}
+use Rattle.std.specs.Prelude.{ℕ, List, replicate, Ok, Err}
 use Rattle.model.specs.Numbers.{outcome_verdict, step_verdict, refusal, changed_answer, plan_answer, move_answer}
 use Rattle.model.specs.Plot.{max_cells}
 use Rattle.model.specs.Lent.{Lent, Scratch, scratch_with}
@@ -10,8 +10,7 @@ use Rattle.model.specs.Report.{reported}
 use Rattle.model.specs.Plan.{planned}
 use Rattle.model.specs.Move.{moved}
 use Rattle.model.specs.declared.Head.{Head}
-use Rattle.model.specs.declared.Verdict.{Verdict}
-use Rattle.model.specs.declared.Verdict.TheVariants.{Accepted, Refused}
+use Rattle.model.specs.Verdict.{Verdict}
 
 -- "each holds room for 4,096 cells of its own"
 abbrev pub own_room : Lent
@@ -30,15 +29,15 @@ after_c answer bytes = record { answer = answer; bytes = bytes }
 
 -- the record is "rewritten there", and a refusal leaves the bytes
 abbrev pub rewritten : Verdict → (before after : List ℕ) → List ℕ
-rewritten Accepted before after = after
-rewritten (Refused why) before after = before
+rewritten (Ok _) before after = after
+rewritten (Err why) before after = before
 
 -- "The checks are load's in load's order, then the call's own": the call answers, and leaves this state
 unfoldable pub on_record : (bytes : List ℕ) → Verdict → (answer : ℕ) → Head → Lent → AfterC
 on_record bytes verdict answer head p =
     elim (load_check bytes own_room) [
-      | Accepted ↦ after_c answer (rewritten verdict bytes (record_of head p))
-      | Refused why ↦ after_c (refusal why) bytes
+      | Ok _ ↦ after_c answer (rewritten verdict bytes (record_of head p))
+      | Err why ↦ after_c (refusal why) bytes
     ]
 
 -- the state that the bytes hold

@@ -3,7 +3,7 @@
 use Rattle.std.specs.Prelude.{List, [], ◌∷◌, ℕ, replicate}
 use Rattle.model.specs.Lent.{Lent, lent_with, scratch_with}
 use Rattle.model.specs.Head.{head_at}
-use Rattle.model.specs.Numbers.{verdict_number, outcome_verdict, step_verdict, save_answer}
+use Rattle.model.specs.Numbers.{verdict_number, outcome_verdict, step_verdict, given_number}
 use Rattle.model.specs.Layout.{laid_out}
 use Rattle.model.specs.Report.{reported}
 use Rattle.model.specs.Plan.{planned}
@@ -37,7 +37,7 @@ abbrev pub move : (w h goal cell : ℕ) → Lent → ℕ
 move w h goal cell p = verdict_number (step_verdict (moved (head_at w h goal cell) p).answer.step)
 
 abbrev pub save : (room : ℕ) → Lent → ℕ
-save room p = save_answer (saved (head_at 2 1 1 0) p (nines room)).answer.length
+save room p = given_number (saved (head_at 2 1 1 0) p (nines room)).answer.length
 
 abbrev pub load : (bytes : List ℕ) (g l k : ℕ) → ℕ
 load bytes g l k = verdict_number (loaded bytes (lent_of g l k)).answer.verdict

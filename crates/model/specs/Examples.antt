@@ -1,13 +1,13 @@
 -- P1 to P11 of document 01: one table, and what is seen in each example. The one statement over the table is proved in
 -- proofs/Computed/Examples. Lent buffers have one entry more than they need, and hold 9s where nothing was written.
-use Rattle.std.specs.Prelude.{List, [], ◌∷◌, map, ℕ, ◌+◌, ◌*◌, replicate}
+use Rattle.std.specs.Prelude.{List, [], ◌∷◌, map, ℕ, ◌+◌, ◌*◌, replicate, Ok, Result}
 use Rattle.model.specs.Lists.{every, tally, filled, gathered}
 use Rattle.model.specs.Plot.{bad_sides, ahead, allowed, distance}
 use Rattle.model.specs.Lent.{Lent, Scratch, lent_with, scratch_with}
 use Rattle.model.specs.Head.{cells_of}
 use Rattle.model.specs.Sound.{ground_sound, learned_sound, step_close, cell_close, neighbours_close, link_entry, links_sound, sound}
 use Rattle.model.specs.Route.{leads, cells_from, route}
-use Rattle.model.specs.Numbers.{verdict_number, step_verdict, save_answer}
+use Rattle.model.specs.Numbers.{verdict_number, step_verdict, given_number}
 use Rattle.model.specs.Refusals.{fits, check}
 use Rattle.model.specs.Layout.{layout_check, fresh, laid_out}
 use Rattle.model.specs.Report.{report_check, link_once_blocked, unlinked, blocked, reported}
@@ -21,6 +21,7 @@ use Rattle.model.specs.Listing.{list_check, listed, list_question}
 use Rattle.model.specs.Controller.{on_record, reported_c, planned_c, moved_c}
 use Rattle.model.specs.declared.Head.{Head}
 use Rattle.model.specs.declared.Outcome.{Outcome}
+use Rattle.model.specs.declared.Reason.{Reason}
 use Rattle.model.specs.declared.Step.{Step}
 
 -- to unfold this is to unfold every definition that the examples compute with
@@ -76,7 +77,7 @@ pub record Situation : Type 0 where
   pub work : Scratch
   pub outcome : Outcome
   pub count : ℕ
-  pub step : Step
+  pub step : Result Step Reason
 
 abbrev pub room : ℕ → List ℕ
 room n = replicate (n + 1) 9
@@ -94,7 +95,7 @@ begin e =
       work = scratch_with (room n) (room n) (room n);
       outcome = Outcome.NoWay;
       count = 0;
-      step = Step.Moved;
+      step = Ok Step.Moved;
     }
 
 abbrev pub call : Situation → ExampleCall → Situation
@@ -127,7 +128,7 @@ look s (plan_gave o n) = plan_gave s.outcome s.count
 look s (move_gave n) = move_gave (verdict_number (step_verdict s.step))
 look s (save_gives n l) =
     let r = saved s.head s.lists (room (record_length (cells_of s.head))) in
-    save_gives (save_answer r.answer.length) r.buffer
+    save_gives (given_number r.answer.length) r.buffer
 look s (load_gives n l) = load_gives (verdict_number (loaded l (roomy 3)).answer.verdict) l
 look s (length_at n l) = length_at n (record_length n)
 

@@ -1,12 +1,11 @@
 -- Lay out (sizes, start, goal).
-use Rattle.std.specs.Prelude.{ℕ, [], ◌∷◌}
+use Rattle.std.specs.Prelude.{ℕ, [], ◌∷◌, Ok, Err}
 use Rattle.model.specs.Lists.{filled, each}
 use Rattle.model.specs.Plot.{cells, distance}
 use Rattle.model.specs.Lent.{Lent, lent_with, buffers_of, After, after}
 use Rattle.model.specs.Head.{head_at, no_head}
 use Rattle.model.specs.Refusals.{fits, changed}
-use Rattle.model.specs.declared.Verdict.{Verdict}
-use Rattle.model.specs.declared.Verdict.TheVariants.{Accepted, Refused}
+use Rattle.model.specs.Verdict.{Verdict}
 use Rattle.model.specs.declared.Changed.{Changed}
 
 -- "Start may equal goal": no test asks
@@ -22,6 +21,6 @@ fresh w h goal p =
 unfoldable pub laid_out : (w h start goal : ℕ) → Lent → After Changed
 laid_out w h start goal p =
     elim (layout_check w h start goal p) [
-      | Accepted ↦ after (changed (head_at w h goal start) Accepted) (fresh w h goal p)
-      | Refused why ↦ after (changed no_head (Refused why)) p
+      | Ok _ ↦ after (changed (head_at w h goal start) (Ok tt)) (fresh w h goal p)
+      | Err why ↦ after (changed no_head (Err why)) p
     ]

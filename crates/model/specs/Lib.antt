@@ -4,6 +4,7 @@ pub mod Lists
 pub mod Plot
 pub mod Head
 pub mod Lent
+pub mod Verdict
 pub mod Sound
 pub mod Route
 pub mod Layout

@@ -1,16 +1,16 @@
 -- Move.
-use Rattle.std.specs.Prelude.{true, false, set, eqb}
+use Rattle.std.specs.Prelude.{true, false, set, eqb, Ok, Err, Result}
 use Rattle.model.specs.Lent.{Lent, lent_with, After, after}
 use Rattle.model.specs.Head.{moved_to}
 use Rattle.model.specs.Route.{next, stands}
 use Rattle.model.specs.Refusals.{acceptance}
 use Rattle.model.specs.declared.Head.{Head}
+use Rattle.model.specs.declared.Reason.{Reason}
 use Rattle.model.specs.declared.Reason.TheVariants.{NoRoute}
-use Rattle.model.specs.declared.Verdict.TheVariants.{Accepted, Refused}
 use Rattle.model.specs.declared.Step.{Step}
 use Rattle.model.specs.declared.Moved.{Moved}
 
-abbrev pub stepped : Head → Step → Lent → After Moved
+abbrev pub stepped : Head → Result Step Reason → Lent → After Moved
 stepped head step p = after (record { head = head; step = step }) p
 
 -- "the cart goes to the linked cell and the link of the cell it left becomes 0"
@@ -24,12 +24,12 @@ lists_onward head p = lent_with p.ground p.learned (set p.link head.cell 0)
 unfoldable pub moved : Head → Lent → After Moved
 moved head p =
     elim (acceptance head p) [
-      | Accepted ↦ elim (eqb head.cell head.goal) [
-        | true ↦ stepped head Step.Arrived p
+      | Ok _ ↦ elim (eqb head.cell head.goal) [
+        | true ↦ stepped head (Ok Step.Arrived) p
         | false ↦ elim (stands head p) [
-          | true ↦ stepped (head_onward head p) Step.Moved (lists_onward head p)
-          | false ↦ stepped head (Step.Refused NoRoute) p
+          | true ↦ stepped (head_onward head p) (Ok Step.Moved) (lists_onward head p)
+          | false ↦ stepped head (Err NoRoute) p
         ]
       ]
-      | Refused why ↦ stepped head (Step.Refused why) p
+      | Err why ↦ stepped head (Err why) p
     ]

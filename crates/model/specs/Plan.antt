@@ -1,5 +1,5 @@
 -- Plan.
-use Rattle.std.specs.Prelude.{ℕ, zero, suc, ◌-◌, Bool, true, false, cond, List, ◌++◌, get_or, set, ltb, eqb}
+use Rattle.std.specs.Prelude.{ℕ, zero, suc, ◌-◌, Bool, true, false, cond, List, ◌++◌, get_or, set, ltb, eqb, Ok, Err}
 use Rattle.model.specs.Lists.{filled, tally}
 use Rattle.model.specs.Plot.{cells, behind}
 use Rattle.model.specs.Lent.{Lent, Scratch, lent_with, buffers_of, scratch_buffers}
@@ -8,8 +8,7 @@ use Rattle.model.specs.Route.{leads_from}
 use Rattle.model.specs.Refusals.{check}
 use Rattle.model.specs.Search.{begun, total, Ended, stopped_at, nothing_waits, out_of_iterations, run}
 use Rattle.model.specs.declared.Head.{Head}
-use Rattle.model.specs.declared.Verdict.{Verdict}
-use Rattle.model.specs.declared.Verdict.TheVariants.{Accepted, Refused}
+use Rattle.model.specs.Verdict.{Verdict}
 use Rattle.model.specs.declared.Outcome.{Outcome}
 use Rattle.model.specs.declared.Planned.{Planned}
 
@@ -87,9 +86,9 @@ concluded head p (out_of_iterations s) = lost head p s
 unfoldable pub planned : Head → Lent → Scratch → AfterPlan
 planned head p s =
     elim (plan_check head p s) [
-      | Accepted ↦ elim (eqb head.cell head.goal) [
+      | Ok _ ↦ elim (eqb head.cell head.goal) [
         | true ↦ after_plan (answered head 0 Outcome.Arrived) p s
         | false ↦ concluded head p (searched head p s)
       ]
-      | Refused why ↦ after_plan (answered head 0 (Outcome.Refused why)) p s
+      | Err why ↦ after_plan (answered head 0 (Outcome.Refused why)) p s
     ]

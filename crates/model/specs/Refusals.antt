@@ -1,5 +1,5 @@
 -- "What comes back when it can't be done": the tests that calls share, in the order of their numbers, and the verdict.
-use Rattle.std.specs.Prelude.{ℕ, Bool, true, false, not, ◌||◌, List, [], ◌∷◌, length, ltb, leb}
+use Rattle.std.specs.Prelude.{ℕ, Bool, true, false, not, ◌||◌, List, [], ◌∷◌, length, ltb, leb, Ok, Err}
 use Rattle.model.specs.Plot.{bad_sides, cells}
 use Rattle.model.specs.Lent.{Lent, buffers_of}
 use Rattle.model.specs.Head.{cells_named}
@@ -7,19 +7,18 @@ use Rattle.model.specs.Sound.{sound}
 use Rattle.model.specs.declared.Head.{Head}
 use Rattle.model.specs.declared.Reason.{Reason}
 use Rattle.model.specs.declared.Reason.TheVariants.{Sides, Short, Outside, Unsound}
-use Rattle.model.specs.declared.Verdict.{Verdict}
-use Rattle.model.specs.declared.Verdict.TheVariants.{Accepted, Refused}
+use Rattle.model.specs.Verdict.{Verdict}
 use Rattle.model.specs.declared.Changed.{Changed}
 
 -- refused for this reason where the test passes; else what the next tests say
 abbrev pub refuse_if : Bool → Reason → Verdict → Verdict
-refuse_if true why next = Refused why
+refuse_if true why next = Err why
 refuse_if false why next = next
 
 -- the refusal of the first, or else what the next says
 abbrev pub and_then : Verdict → Verdict → Verdict
-and_then Accepted next = next
-and_then (Refused why) next = Refused why
+and_then (Ok _) next = next
+and_then (Err why) next = Err why
 
 -- a buffer has fewer than n entries; one of some has
 abbrev pub too_short : ℕ → List ℕ → Bool
@@ -39,12 +38,12 @@ unfoldable pub fits : (w h : ℕ) (buffers : List (List ℕ)) (named : List ℕ)
 fits w h buffers named =
     refuse_if (bad_sides w h) Sides
     (refuse_if (any_short (cells w h) buffers) Short
-    (refuse_if (any_outside (cells w h) named) Outside Accepted))
+    (refuse_if (any_outside (cells w h) named) Outside (Ok tt)))
 
 -- 1, 2, 3, and then 4: "Every call but layout checks this over all cells"
 unfoldable pub check : Head → Lent → (buffers : List (List ℕ)) (named : List ℕ) → Verdict
 check head p buffers named =
-    and_then (fits head.width head.height buffers named) (refuse_if (not (sound head p)) Unsound Accepted)
+    and_then (fits head.width head.height buffers named) (refuse_if (not (sound head p)) Unsound (Ok tt))
 
 -- the same of the head and what is lent alone: the data are accepted. What else a call is given it tests afterwards
 abbrev pub acceptance : Head → Lent → Verdict

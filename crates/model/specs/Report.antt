@@ -1,5 +1,5 @@
 -- Report (a cell is blocked).
-use Rattle.std.specs.Prelude.{ℕ, cond, ◌||◌, List, ◌∷◌, get_or, set, eqb}
+use Rattle.std.specs.Prelude.{ℕ, cond, ◌||◌, List, ◌∷◌, get_or, set, eqb, Ok, Err}
 use Rattle.model.specs.Lists.{filled}
 use Rattle.model.specs.Plot.{cells, free}
 use Rattle.model.specs.Lent.{Lent, lent_with, buffers_of, After, after}
@@ -8,14 +8,13 @@ use Rattle.model.specs.Route.{next}
 use Rattle.model.specs.Refusals.{refuse_if, and_then, check, changed}
 use Rattle.model.specs.declared.Head.{Head}
 use Rattle.model.specs.declared.Reason.TheVariants.{OwnCell}
-use Rattle.model.specs.declared.Verdict.{Verdict}
-use Rattle.model.specs.declared.Verdict.TheVariants.{Accepted, Refused}
+use Rattle.model.specs.Verdict.{Verdict}
 use Rattle.model.specs.declared.Changed.{Changed}
 
 -- "The goal may be reported, unless the cart is on it": 5 is of the cart's cell alone
 unfoldable pub report_check : Head → Lent → (c : ℕ) → Verdict
 report_check head p c =
-    and_then (check head p (buffers_of p) (c ∷ cells_named head)) (refuse_if (eqb c head.cell) OwnCell Accepted)
+    and_then (check head p (buffers_of p) (c ∷ cells_named head)) (refuse_if (eqb c head.cell) OwnCell (Ok tt))
 
 -- "its link becomes 0, and so does each neighbour's link that pointed to it": the link of x once c is blocked
 unfoldable pub link_once_blocked : (w h : ℕ) (link : List ℕ) (c x : ℕ) → ℕ
@@ -34,6 +33,6 @@ blocked head p c =
 unfoldable pub reported : Head → Lent → (c : ℕ) → After Changed
 reported head p c =
     elim (report_check head p c) [
-      | Accepted ↦ after (changed head Accepted) (blocked head p c)
-      | Refused why ↦ after (changed head (Refused why)) p
+      | Ok _ ↦ after (changed head (Ok tt)) (blocked head p c)
+      | Err why ↦ after (changed head (Err why)) p
     ]

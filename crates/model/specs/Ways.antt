@@ -1,11 +1,10 @@
 -- What the demands speak of: accepted data, ways over cells not known blocked, and the fewest steps.
-use Rattle.std.specs.Prelude.{◌≡◌, true, List, ℕ, ◌<◌}
+use Rattle.std.specs.Prelude.{◌≡◌, true, List, ℕ, ◌<◌, Ok}
 use Rattle.walks.specs.Walk.{Walk, Fewest}
 use Rattle.model.specs.Plot.{cells, ahead, allowed}
 use Rattle.model.specs.Lent.{Lent}
 use Rattle.model.specs.Refusals.{acceptance}
 use Rattle.model.specs.declared.Head.{Head}
-use Rattle.model.specs.declared.Verdict.TheVariants.{Accepted}
 
 -- one leg of a way: an allowed step in direction d leads from cell x of the plot to y
 pub record Leg (w h : ℕ) (ground : List ℕ) (d x y : ℕ) : Type 0 where
@@ -20,7 +19,7 @@ pub record Adj (w h : ℕ) (ground : List ℕ) (x y : ℕ) : Type 0 where
 
 -- the data are accepted
 abbrev pub Accepts : Head → Lent → Type 0
-Accepts head p = acceptance head p ≡ Accepted
+Accepts head p = acceptance head p ≡ Ok tt
 
 -- n steps over cells not known blocked lead from x to the goal ..
 abbrev pub HasWay : Head → Lent → (x n : ℕ) → Type 0

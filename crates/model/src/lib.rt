@@ -9,7 +9,7 @@ ghost use Rattle.model.specs.Numbers.{reason_number, outcome_verdict, step_verdi
 ghost use Rattle.model.specs.Head.{head_at, no_head, moved_to, aimed_at};
 
 // The plot's sides, its goal and the cart's cell. It goes in by value, and the next head comes back.
-#[derive(Clone, Copy)]
+#[derive(Clone, Copy, Debug, PartialEq, Eq)]
 pub struct Head {
     pub width: usize,
     pub height: usize,
@@ -23,7 +23,8 @@ impl Head {
 
     pub const MAX_CELLS: usize = Self::MAX_SIDE * Self::MAX_SIDE;
 
-    // A side is 0 or above the largest. Good sides come first: only they have a product that fits.
+    // A side is 0 or above the largest. Good sides come first: only they have a product that fits. (So two numbers, here and in the tests
+    // that ask this: a plot is what has passed it.)
     #[tactic(auto, unfolding(crate::specs::Plot::bad_sides))]
     pub fn bad_sides(width: usize, height: usize) -> bool
         ensures { result ≡ bad_sides width height }
@@ -76,7 +77,7 @@ impl Head {
 }
 
 // Why a call is refused, in the order of document 01's table.
-#[derive(Clone, Copy)]
+#[derive(Clone, Copy, Debug, PartialEq, Eq)]
 pub enum Reason {
     Sides,
     Short,
@@ -88,6 +89,7 @@ pub enum Reason {
 }
 
 impl Reason {
+    // (No From: a number is document 01's word for it, and `usize::from(why)` would not say which number.)
     pub fn number(self) -> usize
         ensures { result ≡ reason_number self }
     {
@@ -103,21 +105,16 @@ impl Reason {
     }
 }
 
-#[derive(Clone, Copy)]
-pub enum Verdict {
-    Accepted,
-    Refused(Reason),
-}
-
-// What layout, report and load answer.
-#[derive(Clone, Copy)]
+// What layout, report and load answer. (A head beside the verdict, here and below: a refusal hands back the head that was given, or zeros.)
+#[derive(Clone, Copy, Debug, PartialEq, Eq)]
 pub struct Changed {
     pub head: Head,
-    pub verdict: Verdict,
+    pub verdict: Result<(), Reason>,
 }
 
-// What plan answers: how it ended, and the count of expanded cells, 0 where there was no search.
-#[derive(Clone, Copy)]
+// What plan answers: how it ended, and the count of expanded cells, 0 where there was no search. (The refusal is a case and no Err: it
+// is the form that document 01 gives this answer.)
+#[derive(Clone, Copy, Debug, PartialEq, Eq)]
 pub enum Outcome {
     Route(usize),
     NoWay,
@@ -126,19 +123,19 @@ pub enum Outcome {
 }
 
 impl Outcome {
-    pub fn verdict(self) -> Verdict
+    pub fn verdict(self) -> Result<(), Reason>
         ensures { result ≡ outcome_verdict self }
     {
         match self {
-            Outcome::Route(_) => Verdict::Accepted,
-            Outcome::NoWay => Verdict::Accepted,
-            Outcome::Arrived => Verdict::Accepted,
-            Outcome::Refused(why) => Verdict::Refused(why),
+            Outcome::Route(_) => Ok(()),
+            Outcome::NoWay => Ok(()),
+            Outcome::Arrived => Ok(()),
+            Outcome::Refused(why) => Err(why),
         }
     }
 }
 
-#[derive(Clone, Copy)]
+#[derive(Clone, Copy, Debug, PartialEq, Eq)]
 pub struct Planned {
     pub head: Head,
     pub expanded: usize,
@@ -146,40 +143,29 @@ pub struct Planned {
 }
 
 // What move answers.
-#[derive(Clone, Copy)]
+#[derive(Clone, Copy, Debug, PartialEq, Eq)]
 pub enum Step {
     Moved,
     Arrived,
-    Refused(Reason),
 }
 
-impl Step {
-    pub fn verdict(self) -> Verdict
-        ensures { result ≡ step_verdict self }
+#[derive(Clone, Copy, Debug, PartialEq, Eq)]
+pub struct Moved {
+    pub head: Head,
+    pub step: Result<Step, Reason>,
+}
+
+impl Moved {
+    pub fn verdict(self) -> Result<(), Reason>
+        ensures { result ≡ step_verdict self.step }
     {
-        match self {
-            Step::Moved => Verdict::Accepted,
-            Step::Arrived => Verdict::Accepted,
-            Step::Refused(why) => Verdict::Refused(why),
-        }
+        self.step.map(|_| ())
     }
 }
 
-#[derive(Clone, Copy)]
-pub struct Moved {
-    pub head: Head,
-    pub step: Step,
-}
-
 // What save answers: the record's length.
-#[derive(Clone, Copy)]
-pub enum Length {
-    Bytes(usize),
-    Refused(Reason),
-}
-
-#[derive(Clone, Copy)]
+#[derive(Clone, Copy, Debug, PartialEq, Eq)]
 pub struct Saved {
     pub head: Head,
-    pub length: Length,
+    pub length: Result<usize, Reason>,
 }

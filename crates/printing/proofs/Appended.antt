@@ -5,21 +5,13 @@ use mathlib.Core.Path.{◌≡◌, refl, sym, ap, ap₂, ◌∙◌}
 use mathlib.Core.Bool.{cond, Bool, true, false}
 use mathlib.Core.Logic.{◌≢◌}
 use mathlib.Core.List.{List, [], ◌∷◌, ◌++◌, append_assoc}
-use native.Mathlib.Numerals.{add-one}
 use native.Mathlib.Nat.{add-zero}
 use native.Mathlib.Omega.{arith}
 use borrow.Author.Tests.{lt-ltb, le-ltb}
 use lib.Dec.{ltb}
-use lib.ListN.{length, get_or, set, take, drop, length-append, length-drop, take-append-drop}
-use lib.Seq.{set_split, take-append_seam, take_at, drop-append-add, drop-drop, length-take-le, take-suc, take_all}
+use lib.ListN.{length, take, drop, length-append, length-drop, take-append-drop}
+use lib.Seq.{take-append_seam, take_at, drop-append-add, drop-drop, length-take-le}
 use Rattle.printing.specs.Text.{digit, digits, decimal, number, Put}
-
-pub put_byte : (at v : ℕ) (l : List ℕ) → at < length l → Put at (v ∷ []) l (at + 1) (set l at v)
-put_byte at v l room =
-    record {
-      is = set_split l at v room ∙ ap (λ (k : ℕ). take at l ++ v ∷ drop k l) (sym (add-one at));
-      behind = refl;
-    }
 
 pub put_nothing : (at : ℕ) (l : List ℕ) → Put at [] l at l
 put_nothing at l = record { is = sym (ap (λ (k : ℕ). take at l ++ drop k l) (add-zero at) ∙ take-append-drop at l); behind = sym (add-zero at) }
@@ -102,24 +94,6 @@ module _ {at : ℕ} (k n : ℕ) {l : List ℕ} {m : ℕ} {l₁ : List ℕ} (p : 
           let s : suc j - 1 ≡ j = omega arith in
           rw (s, digits, e) refl
 
--- Words -------------------------------------------------------------------------------------------------------------------------------
-
-module _ (words l₀ : List ℕ) (at : ℕ) (room : at + length words ≤ length l₀) where
-  pub words_begin : Put at (take 0 words) l₀ (at + 0) l₀
-  words_begin = rw (add-zero at) (put_nothing at l₀)
-
-  pub words_next : (i : ℕ) (l : List ℕ) → i < length words → Put at (take i words) l₀ (at + i) l
-      → Put at (take (i + 1) words) l₀ (at + (i + 1)) (set l (at + i) (get_or words i 0))
-  words_next i l inside p =
-      let n : length (take i words) ≡ i = length-take-le i words (omega arith) in
-      let long : length l ≡ length l₀ = put_long p (omega (arith, n, room)) in
-      let one = put_byte (at + i) (get_or words i 0) l (omega (arith, long, room)) in
-      let next : at + i + 1 ≡ at + (i + 1) = omega arith in
-      rw next at (put_as (put_then p one (omega (arith, n, room))) (sym (take-suc words i 0 inside) ∙ ap (λ (k : ℕ). take k words) (sym (add-one i))))
-
-  pub words_end : (i : ℕ) (l : List ℕ) → i ≡ length words → Put at (take i words) l₀ (at + i) l → Put at words l₀ (at + i) l
-  words_end i l e p = put_as p (take_all i words (omega arith))
-
 -- A number, and a character behind it ---------------------------------------------------------------------------------------------------
 
 module _ {at : ℕ} (n : ℕ) {l : List ℕ} {m : ℕ} {l₁ : List ℕ} (p : Put at (decimal n) l m l₁) (room : at + 20 < length l) where
@@ -141,14 +115,3 @@ pub put_front : {text l : List ℕ} {m : ℕ} {l' : List ℕ} → Put 0 text l m
 put_front {text} {l} p =
     let n : 0 + length text ≡ length text = omega arith in
     ap₂ take (p.behind ∙ n) p.is ∙ take-append_seam text (drop (0 + length text) l)
-
-pub put_within : {at : ℕ} {text l : List ℕ} {m : ℕ} {l' : List ℕ} → Put at text l m l' → at ≤ length l → m ≤ length l'
-put_within {at} {text} {l} p room =
-    omega (
-      arith,
-      p.behind,
-      ap length p.is,
-      length-append (take at l) (text ++ drop (at + length text) l),
-      length-append text (drop (at + length text) l),
-      length-take-le at l room,
-    )

@@ -1,3 +1,4 @@
 -- Text put into lent bytes, and the lines of a drive.
 pub mod Text
+pub mod Pages
 pub mod Lines

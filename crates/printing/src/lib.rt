@@ -1,61 +1,76 @@
-// Text written into lent bytes from a place on: the bytes before the place stay, and so do those behind the text. Each function
-// answers the place behind what it wrote. `lines` has the lines that a drive prints.
+// Text written into lent bytes: the bytes before it stay, and so do those behind it. `lines` has the lines that a drive prints.
 
 #![tactic(auto)]
 
 pub mod lines;
 
-ghost use Rattle.std.specs.Prelude.{◌+◌, ◌<◌, ◌≤◌, [], ◌∷◌, length};
-ghost use Rattle.printing.specs.Text.{digits, decimal, number, Put};
+ghost use Rattle.std.specs.Prelude.{◌≡◌, ◌+◌, ◌<◌, ◌≤◌, [], ◌∷◌, length, take};
+ghost use Rattle.printing.specs.Text.{digits, decimal, number};
+ghost use Rattle.printing.specs.Pages.{Writes, SamePage};
 
-pub fn put_byte(out: &mut [u8], at: usize, byte: u8) -> usize
-    requires { at < length out.old }
-    ensures { Put at (byte ∷ []) out.old result out.new }
-{
-    out[at] = byte;
-    at + 1
+// Lent bytes, and the length of the text that stands first in them.
+#[derive(Drop)]
+pub struct Page<'a> {
+    pub bytes: &'a mut [u8],
+    pub length: usize,
 }
 
-pub fn put_words(out: &mut [u8], at: usize, words: &[u8]) -> usize
-    requires { at + length words.now ≤ length out.old }
-    ensures { Put at words.now out.old result out.new }
-{
-    let mut i = 0;
-    while i < words.len() {
-        out[at + i] = words[i];
-        i += 1;
+impl<'a> Page<'a> {
+    // What is written.
+    pub fn text(&self) -> &[u8]
+        requires { self.now.length ≤ length self.now.bytes.now }
+        ensures { result.now ≡ take self.now.length self.now.bytes.now }
+    {
+        &self.bytes[..self.length]
     }
-    at + i
-}
 
-// Up to k + 1 digits of n: those before the last first.
-fn put_digits(out: &mut [u8], at: usize, k: usize, n: usize) -> usize
-    requires { (at + k < length out.old) × (k < 20) }
-    ensures { Put at (digits k n) out.old result out.new }
-{
-    let last = (n % 10) as u8;
-    if k == 0 {
-        return put_byte(out, at, 48 + last);
+    pub fn put_byte(&mut self, byte: u8)
+        requires { self.old.length < length self.old.bytes.now }
+        ensures text { Writes (byte ∷ []) self.old self.new }
+        ensures same { SamePage self.old self.new }
+    {
+        self.bytes[self.length] = byte;
+        self.length += 1;
     }
-    if n < 10 {
-        return put_byte(out, at, 48 + last);
+
+    pub fn put_words(&mut self, words: &[u8])
+        requires { self.old.length + length words.now ≤ length self.old.bytes.now }
+        ensures text { Writes words.now self.old self.new }
+        ensures same { SamePage self.old self.new }
+    {
+        let end = self.length + words.len();
+        self.bytes[self.length..end].copy_from_slice(words);
+        self.length = end;
     }
-    let next = put_digits(out, at, k - 1, n / 10);
-    put_byte(out, next, 48 + last)
-}
 
-pub fn put_decimal(out: &mut [u8], at: usize, n: usize) -> usize
-    requires { at + 19 < length out.old }
-    ensures { Put at (decimal n) out.old result out.new }
-{
-    put_digits(out, at, 19, n)
-}
+    // Up to k + 1 digits of n: those before the last first. (By hand: std's `write!` may answer an error, and no put here may fail.)
+    fn put_digits(&mut self, k: usize, n: usize)
+        requires { (self.old.length + k < length self.old.bytes.now) × (k < 20) }
+        ensures text { Writes (digits k n) self.old self.new }
+        ensures same { SamePage self.old self.new }
+    {
+        let last = (n % 10) as u8;
+        if 0 < k && 10 <= n {
+            self.put_digits(k - 1, n / 10);
+        }
+        self.put_byte(b'0' + last);
+    }
 
-// A number, and a character behind it.
-pub fn put_number(out: &mut [u8], at: usize, n: usize, end: u8) -> usize
-    requires { at + 20 < length out.old }
-    ensures { Put at (number n end) out.old result out.new }
-{
-    let next = put_decimal(out, at, n);
-    put_byte(out, next, end)
+    pub fn put_decimal(&mut self, n: usize)
+        requires { self.old.length + 19 < length self.old.bytes.now }
+        ensures text { Writes (decimal n) self.old self.new }
+        ensures same { SamePage self.old self.new }
+    {
+        self.put_digits(19, n)
+    }
+
+    // A number, and a character behind it.
+    pub fn put_number(&mut self, n: usize, end: u8)
+        requires { self.old.length + 20 < length self.old.bytes.now }
+        ensures text { Writes (number n end) self.old self.new }
+        ensures same { SamePage self.old self.new }
+    {
+        self.put_decimal(n);
+        self.put_byte(end);
+    }
 }

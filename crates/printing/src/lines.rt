@@ -1,11 +1,12 @@
 // The lines that a drive prints, and their text.
 ghost use Rattle.std.specs.Prelude.{◌≡◌, ◌++◌, ◌+◌, ◌≤◌, ◌<◌, length};
-ghost use Rattle.printing.specs.Text.{line_feed, space, number, Put};
+ghost use Rattle.printing.specs.Text.{line_feed, space, number};
 ghost use Rattle.printing.specs.Lines.{is_last, longest_line, line_text};
+ghost use Rattle.printing.specs.Pages.{Writes, SamePage};
 
-use crate::{put_number, put_words};
+use crate::Page;
 
-#[derive(Clone, Copy)]
+#[derive(Clone, Copy, Debug, PartialEq, Eq)]
 pub enum Line {
     Blocked(usize),
     Plan { length: usize, expanded: usize },
@@ -14,54 +15,58 @@ pub enum Line {
     NoWay(usize),
 }
 
-// Whether the drive ends with this line.
-pub fn is_last(line: Line) -> bool
-    ensures { result ≡ is_last line }
-{
-    match line {
-        Line::Blocked(_) => false,
-        Line::Plan {
-            length: _,
-            expanded: _,
-        } => false,
-        Line::Move(_) => false,
-        Line::Arrived(_) => true,
-        Line::NoWay(_) => true,
+impl Line {
+    // No line's text is longer.
+    pub const LONGEST: usize = 50;
+
+    // Whether the drive ends with this line.
+    pub fn is_last(self) -> bool
+        ensures { result ≡ is_last self }
+    {
+        match self {
+            Line::Blocked(_) => false,
+            Line::Plan { .. } => false,
+            Line::Move(_) => false,
+            Line::Arrived(_) => true,
+            Line::NoWay(_) => true,
+        }
     }
 }
 
-// Words, a number and a line feed.
-fn put_worded(out: &mut [u8], at: usize, words: &[u8], n: usize) -> usize
-    requires { at + length words.now + 20 < length out.old }
-    ensures { Put at (words.now ++ number n line_feed) out.old result out.new }
-{
-    let next = put_words(out, at, words);
-    put_number(out, next, n, 10)
-}
+impl<'a> Page<'a> {
+    // Words, a number and a line feed.
+    fn put_worded(&mut self, words: &[u8], n: usize)
+        requires { self.old.length + length words.now + 20 < length self.old.bytes.now }
+        ensures text { Writes (words.now ++ number n line_feed) self.old self.new }
+        ensures same { SamePage self.old self.new }
+    {
+        self.put_words(words);
+        self.put_number(n, b'\n');
+    }
 
-// Words, two numbers with a space between them, and a line feed.
-fn put_plan(out: &mut [u8], at: usize, words: &[u8], n: usize, m: usize) -> usize
-    requires { at + length words.now + 41 < length out.old }
-    ensures { Put at (words.now ++ number n space ++ number m line_feed) out.old result out.new }
-{
-    let length = put_words(out, at, words);
-    let expanded = put_number(out, length, n, 32);
-    put_number(out, expanded, m, 10)
-}
+    // Words, two numbers with a space between them, and a line feed.
+    fn put_plan(&mut self, words: &[u8], n: usize, m: usize)
+        requires { self.old.length + length words.now + 41 < length self.old.bytes.now }
+        ensures text { Writes (words.now ++ number n space ++ number m line_feed) self.old self.new }
+        ensures same { SamePage self.old self.new }
+    {
+        self.put_words(words);
+        self.put_number(n, b' ');
+        self.put_number(m, b'\n');
+    }
 
-// No line is longer.
-pub const LONGEST_LINE: usize = 50;
-
-// The text of a line.
-pub fn put_line(out: &mut [u8], at: usize, line: Line) -> usize
-    requires { at + longest_line ≤ length out.old }
-    ensures { Put at (line_text line) out.old result out.new }
-{
-    match line {
-        Line::Blocked(cell) => put_worded(out, at, b"blocked ", cell),
-        Line::Plan { length, expanded } => put_plan(out, at, b"plan ", length, expanded),
-        Line::Move(cell) => put_worded(out, at, b"move ", cell),
-        Line::Arrived(moves) => put_worded(out, at, b"arrived ", moves),
-        Line::NoWay(expanded) => put_worded(out, at, b"no way ", expanded),
+    // The text of a line. (No Display: std's `write!` may answer an error, and no put here may fail.)
+    pub fn put_line(&mut self, line: Line)
+        requires { self.old.length + longest_line ≤ length self.old.bytes.now }
+        ensures text { Writes (line_text line) self.old self.new }
+        ensures same { SamePage self.old self.new }
+    {
+        match line {
+            Line::Blocked(cell) => self.put_worded(b"blocked ", cell),
+            Line::Plan { length, expanded } => self.put_plan(b"plan ", length, expanded),
+            Line::Move(cell) => self.put_worded(b"move ", cell),
+            Line::Arrived(moves) => self.put_worded(b"arrived ", moves),
+            Line::NoWay(expanded) => self.put_worded(b"no way ", expanded),
+        }
     }
 }

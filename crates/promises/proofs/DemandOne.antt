@@ -1,5 +1,6 @@
 -- DEMAND 1, sentence by sentence, over every call and every input (specs/Asking) and the rows of the table (specs/Table).
 -- Assumes nothing.
+use Rattle.std.specs.Prelude.{Ok, Err}
 use mathlib.Core.Path.{◌≡◌, refl, sym, ap, ◌∙◌}
 use mathlib.Core.List.{List, []}
 use mathlib.Core.Logic.{◌≢◌, ◌↔◌}
@@ -12,8 +13,7 @@ use Rattle.model.specs.Listing.{AfterList, listed, list_question}
 use Rattle.model.specs.Numbers.{reason_number, verdict_number}
 use Rattle.model.specs.declared.Head.{Head}
 use Rattle.model.specs.declared.Reason.{Reason}
-use Rattle.model.specs.declared.Verdict.{Verdict}
-use Rattle.model.specs.declared.Verdict.TheVariants.{Accepted, Refused}
+use Rattle.model.specs.Verdict.{Verdict}
 use Rattle.model.proofs.Calls.Acceptance.{not_both}
 use Rattle.model.proofs.Calls.ReasonNumbers.{refused_number, some_number}
 use Rattle.model.proofs.Calls.ListLaws.{ListingOf, list_refused, list_written, list_is, cells_long, question_exactly}
@@ -49,8 +49,8 @@ accepted_exactly a = (
 )
   where
     go : (v : Verdict) → verdict a ≡ v → ((why : Reason) → ¬ Rows a why) → verdict_number v ≡ 0
-    go Accepted e n = refl
-    go (Refused why) e n = absurd (n why ((follows a).given why e))
+    go (Ok _) e n = refl
+    go (Err why) e n = absurd (n why ((follows a).given why e))
 
 -- "A refusal changes no byte that was lent", and "returns its number and the head as given".
 pub refusal_changes_nothing : (a : Ask) → number a (result a) ≢ 0 → (left a (result a) ≡ lent a) × (head_out a (result a) ≡ head_in a)

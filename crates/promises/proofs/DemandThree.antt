@@ -1,5 +1,6 @@
 -- DEMAND 3, sentence by sentence, over carts and any list of calls (specs/Using).
 -- Assumes nothing.
+use Rattle.std.specs.Prelude.{Ok}
 use mathlib.Core.Path.{◌≡◌, refl, sym}
 use mathlib.Core.Bool.{true}
 use mathlib.Core.List.{List, [], ◌∷◌}
@@ -16,7 +17,6 @@ use Rattle.model.specs.Report.{reported}
 use Rattle.model.specs.Plan.{plan_check, planned}
 use Rattle.model.specs.Ways.{Adj, Shortest}
 use Rattle.model.specs.declared.Head.{Head}
-use Rattle.model.specs.declared.Verdict.TheVariants.{Accepted}
 use Rattle.model.specs.declared.Outcome.{Outcome}
 use Rattle.model.specs.Fit.{Held}
 use Rattle.model.proofs.Calls.Acceptance.{not_both, accepts_held, held_accepts}
@@ -47,7 +47,7 @@ way_same : (head : Head) (p q : Lent) → SameGround head p q → {x y n : ℕ} 
 way_same head p q same stay = stay
 way_same head p q same (step a w) = step (adj_same head p q same a) (way_same head p q same w)
 
-module _ (head : Head) (p q : Lent) (s t : Scratch) (ok : plan_check head p s ≡ Accepted) (ok' : plan_check head q t ≡ Accepted)
+module _ (head : Head) (p q : Lent) (s t : Scratch) (ok : plan_check head p s ≡ Ok tt) (ok' : plan_check head q t ≡ Ok tt)
     (same : SameGround head p q) where
   back : SameGround head q p
   back c i = sym (same c i)
@@ -136,7 +136,7 @@ never_exceeds_true k e truth known x n w =
     go (step b w) = step (leg b) (go w)
 
 -- "Over such calls from a fresh layout no learned distance falls, and none exceeds the true distance of a free cell that has a way."
-module _ (w h start goal : ℕ) (p : Lent) (ok : (laid_out w h start goal p).answer.verdict ≡ Accepted) (calls : List Call) where
+module _ (w h start goal : ℕ) (p : Lent) (ok : (laid_out w h start goal p).answer.verdict ≡ Ok tt) (calls : List Call) where
   fresh_fits : Fits (laid w h start goal p)
   fresh_fits = fresh_is_accepted w h start goal p ok
 

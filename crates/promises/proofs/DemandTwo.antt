@@ -1,5 +1,6 @@
 -- DEMAND 2, sentence by sentence, and what document 01 adds to it.
 -- Assumes nothing.
+use Rattle.std.specs.Prelude.{Ok}
 use mathlib.Core.Path.{◌≡◌, refl, sym, ap, ◌∙◌}
 use mathlib.Core.Logic.{◌≢◌, ◌↔◌}
 use mathlib.Core.Bool.{true, false, false≢true}
@@ -21,10 +22,8 @@ use Rattle.model.specs.Record.{record_length, record_of, head_of}
 use Rattle.model.specs.Store.{AfterSave, save_check, saved, loaded}
 use Rattle.model.specs.Ways.{Accepts, HasWay, Shortest}
 use Rattle.model.specs.declared.Head.{Head}
-use Rattle.model.specs.declared.Verdict.TheVariants.{Accepted}
 use Rattle.model.specs.declared.Outcome.{Outcome}
 use Rattle.model.specs.declared.Step.{Step}
-use Rattle.model.specs.declared.Length.{Length}
 use Rattle.model.specs.declared.Changed.{Changed}
 use Rattle.model.specs.Fit.{Room, Held}
 use Rattle.model.proofs.Calls.Acceptance.{not_both, held_accepts}
@@ -39,7 +38,7 @@ use Rattle.model.proofs.Record.SaveAndLoad.{Saving, save_refused, save_wrote, sa
 
 -- The plan ----------------------------------------------------------------------------------------------------------------------------
 
-module _ (head : Head) (p : Lent) (s : Scratch) (ok : plan_check head p s ≡ Accepted) where
+module _ (head : Head) (p : Lent) (s : Scratch) (ok : plan_check head p s ≡ Ok tt) where
   -- "On accepted data the length it states is the fewest steps over cells not known blocked"
   pub length_is_the_fewest : head.cell ≢ head.goal → (L : ℕ) → ((planned head p s).answer.outcome ≡ Outcome.Route L)
       ↔ Shortest head p head.cell L
@@ -125,58 +124,58 @@ order_is_total learned s = record {
 -- The move ----------------------------------------------------------------------------------------------------------------------------
 
 -- "each move short of the goal brings the cart one step nearer": where a route stands it does move ..
-pub route_moves : (head : Head) (p : Lent) → Accepts head p → stands head p ≡ true → head.cell ≢ head.goal → (moved head p).answer.step ≡ Step.Moved
+pub route_moves : (head : Head) (p : Lent) → Accepts head p → stands head p ≡ true → head.cell ≢ head.goal → (moved head p).answer.step ≡ Ok Step.Moved
 route_moves head p = standing_route_moves head p
 
 -- .. and then the fewest steps left are one fewer, and the rest of the route stands
-pub move_is_nearer : (head : Head) (p : Lent) → (moved head p).answer.step ≡ Step.Moved → Nearer head p (moved head p)
+pub move_is_nearer : (head : Head) (p : Lent) → (moved head p).answer.step ≡ Ok Step.Moved → Nearer head p (moved head p)
 move_is_nearer head p = move_comes_nearer head p
 
 -- The record --------------------------------------------------------------------------------------------------------------------------
 
-may_save : (head : Head) (p : Lent) (buffer : List ℕ) → Held head p → record_length (cells_of head) ≤ length buffer → save_check head p buffer ≡ Accepted
+may_save : (head : Head) (p : Lent) (buffer : List ℕ) → Held head p → record_length (cells_of head) ≤ length buffer → save_check head p buffer ≡ Ok tt
 unfolding save_check
 may_save head p buffer a room = rw (save_check, held_accepts head p a, le-ltb (length buffer) (record_length (cells_of head)) room)
 
 -- "A saved record reads back as the same state": load takes what save wrote, with the same head and the same N entries
-pub saved_reads_back : (head : Head) (p : Lent) (buffer : List ℕ) (m : ℕ) → (saved head p buffer).answer.length ≡ Length.Bytes m → (q : Lent)
+pub saved_reads_back : (head : Head) (p : Lent) (buffer : List ℕ) (m : ℕ) → (saved head p buffer).answer.length ≡ Ok m → (q : Lent)
     → Room (cells_of head) q
-    → let r = loaded (take m (saved head p buffer).buffer) q in (r.answer ≡ changed head Accepted) × SameEntries (cells_of head) p r.lists
+    → let r = loaded (take m (saved head p buffer).buffer) q in (r.answer ≡ changed head (Ok tt)) × SameEntries (cells_of head) p r.lists
 saved_reads_back head p buffer m e q room = go (save_is head p buffer) e
   where
-    go : {r : AfterSave} → Saving head p buffer r → r.answer.length ≡ Length.Bytes m
-        → let t = loaded (take m r.buffer) q in (t.answer ≡ changed head Accepted) × SameEntries (cells_of head) p t.lists
+    go : {r : AfterSave} → Saving head p buffer r → r.answer.length ≡ Ok m
+        → let t = loaded (take m r.buffer) q in (t.answer ≡ changed head (Ok tt)) × SameEntries (cells_of head) p t.lists
     go (save_refused f) e = let z : ◌≡◌ {A = ℕ} 0 1 = cc in absurd (omega arith)
     go (save_wrote a w) e = let k : record_length (cells_of head) ≡ m = cc in rw (← k) (saved_reads a w q room)
 
 -- what load accepts saves as the same bytes, in a buffer with room for them
-pub loaded_saves_back : (bytes : List ℕ) (q : Lent) → (loaded bytes q).answer.verdict ≡ Accepted → (buffer : List ℕ) → length bytes ≤ length buffer
+pub loaded_saves_back : (bytes : List ℕ) (q : Lent) → (loaded bytes q).answer.verdict ≡ Ok tt → (buffer : List ℕ) → length bytes ≤ length buffer
     → let r = saved (loaded bytes q).answer.head (loaded bytes q).lists buffer in
-    (r.answer.length ≡ Length.Bytes (length bytes)) × (take (length bytes) r.buffer ≡ bytes)
+    (r.answer.length ≡ Ok (length bytes)) × (take (length bytes) r.buffer ≡ bytes)
 loaded_saves_back bytes q e buffer room = go (load_is bytes q) e
   where
     again : (head : Head) (p : Lent) → Held head p → record_of head p ≡ bytes → (r : AfterSave) → Saving head p buffer r
-        → (r.answer.length ≡ Length.Bytes (length bytes)) × (take (length bytes) r.buffer ≡ bytes)
+        → (r.answer.length ≡ Ok (length bytes)) × (take (length bytes) r.buffer ≡ bytes)
     again head p a k r (save_refused f) = absurd (not_both f (may_save head p buffer a (rw (sym (record_long head p a.room) ∙ ap length k) room)))
     again head p a k r (save_wrote _ w) =
         let l : record_length (cells_of head) ≡ length bytes = sym (record_long head p a.room) ∙ ap length k in
-        (ap Length.Bytes l, rw (← l) (w.front ∙ k))
+        (ap Ok l, rw (← l) (w.front ∙ k))
 
-    go : {r : After Changed} → Loading bytes q r → r.answer.verdict ≡ Accepted
+    go : {r : After Changed} → Loading bytes q r → r.answer.verdict ≡ Ok tt
         → let t =
-        saved r.answer.head r.lists buffer in (t.answer.length ≡ Length.Bytes (length bytes)) × (take (length bytes) t.buffer ≡ bytes)
+        saved r.answer.head r.lists buffer in (t.answer.length ≡ Ok (length bytes)) × (take (length bytes) t.buffer ≡ bytes)
     go (load_refused f) e = absurd (not_both refl e)
     go (load_read f) e = again (head_of bytes) _ (load_held bytes q f) (saved_again bytes q f) _ (save_is (head_of bytes) _ buffer)
 
 -- "and a state has one record": two that are read as one state are the same bytes
-pub state_has_one_record : (bytes bytes' : List ℕ) (q q' : Lent) → (loaded bytes q).answer.verdict ≡ Accepted
-    → (loaded bytes' q').answer.verdict ≡ Accepted
+pub state_has_one_record : (bytes bytes' : List ℕ) (q q' : Lent) → (loaded bytes q).answer.verdict ≡ Ok tt
+    → (loaded bytes' q').answer.verdict ≡ Ok tt
     → (loaded bytes q).answer.head ≡ (loaded bytes' q').answer.head
     → SameEntries (cells_of (loaded bytes q).answer.head) (loaded bytes q).lists (loaded bytes' q').lists
     → bytes ≡ bytes'
 state_has_one_record bytes bytes' q q' e e' = go (load_is bytes q) (load_is bytes' q') e e'
   where
-    go : {r r' : After Changed} → Loading bytes q r → Loading bytes' q' r' → r.answer.verdict ≡ Accepted → r'.answer.verdict ≡ Accepted
+    go : {r r' : After Changed} → Loading bytes q r → Loading bytes' q' r' → r.answer.verdict ≡ Ok tt → r'.answer.verdict ≡ Ok tt
         → r.answer.head ≡ r'.answer.head → SameEntries (cells_of r.answer.head) r.lists r'.lists → bytes ≡ bytes'
     go (load_refused f) l e e' h s = absurd (not_both refl e)
     go (load_read f) (load_refused g) e e' h s = absurd (not_both refl e')

@@ -1,5 +1,6 @@
 -- The demands of a C controller's calls: what report, plan and move over a record answer where load accepts it, and that a
 -- record stays one. Assumes nothing.
+use Rattle.std.specs.Prelude.{Ok, Result}
 use mathlib.Core.Path.{◌≡◌, refl, sym, ap, ◌∙◌}
 use mathlib.Core.Logic.{◌≢◌, ◌↔◌}
 use mathlib.Core.Bool.{true}
@@ -19,9 +20,9 @@ use Rattle.model.specs.Move.{moved}
 use Rattle.model.specs.Controller.{own_room, own_scratch, AfterC, after_c, on_record, state_in, reported_c, planned_c, moved_c}
 use Rattle.model.specs.Ways.{Adj, HasWay, Shortest}
 use Rattle.model.specs.declared.Head.{Head}
-use Rattle.model.specs.declared.Verdict.{Verdict}
-use Rattle.model.specs.declared.Verdict.TheVariants.{Accepted}
+use Rattle.model.specs.Verdict.{Verdict}
 use Rattle.model.specs.declared.Outcome.{Outcome}
+use Rattle.model.specs.declared.Reason.{Reason}
 use Rattle.model.specs.declared.Step.{Step}
 use Rattle.model.proofs.Grid.Geometry.{adj_inside}
 use Rattle.model.proofs.Calls.Acceptance.{not_both, held_accepts}
@@ -31,15 +32,15 @@ use Rattle.model.proofs.Record.RecordLaws.{load_held}
 use Rattle.model.proofs.Record.ControllerLaws.{report_on_record, plan_on_record, move_on_record}
 use Rattle.promises.proofs.CallEndings.{plan_own}
 
-module _ (bytes : List ℕ) (ok : load_check bytes own_room ≡ Accepted) where
+module _ (bytes : List ℕ) (ok : load_check bytes own_room ≡ Ok tt) where
   -- what a call leaves is the record of its state
-  rewritten_as : (verdict : Verdict) (answer : ℕ) (head : Head) (p : Lent) → verdict ≡ Accepted
+  rewritten_as : (verdict : Verdict) (answer : ℕ) (head : Head) (p : Lent) → verdict ≡ Ok tt
       → on_record bytes verdict answer head p ≡ after_c answer (record_of head p)
   unfolding on_record
   rewritten_as verdict answer head p e = rw (on_record, ok, e)
 
   pub report_rewrites : (c : ℕ) → let r =
-      reported (head_of bytes) (state_in bytes) c in r.answer.verdict ≡ Accepted
+      reported (head_of bytes) (state_in bytes) c in r.answer.verdict ≡ Ok tt
       → reported_c bytes c ≡ after_c 0 (record_of r.answer.head r.lists)
   unfolding reported_c
   report_rewrites c e =
@@ -50,7 +51,7 @@ module _ (bytes : List ℕ) (ok : load_check bytes own_room ≡ Accepted) where
   plan_says : Says (head_of bytes) (state_in bytes) own_scratch (planned (head_of bytes) (state_in bytes) own_scratch).answer.outcome
   plan_says = plan_is_true (head_of bytes) (state_in bytes) own_scratch
 
-  taken : (o : Outcome) → Says (head_of bytes) (state_in bytes) own_scratch o → outcome_verdict o ≡ Accepted
+  taken : (o : Outcome) → Says (head_of bytes) (state_in bytes) own_scratch o → outcome_verdict o ≡ Ok tt
   taken (Outcome.Route L) x = refl
   taken Outcome.NoWay x = refl
   taken Outcome.Arrived x = refl
@@ -66,14 +67,14 @@ module _ (bytes : List ℕ) (ok : load_check bytes own_room ≡ Accepted) where
       (taken r.answer.outcome plan_says)
 
   pub move_rewrites : let r =
-      moved (head_of bytes) (state_in bytes) in r.answer.step ≡ Step.Moved
+      moved (head_of bytes) (state_in bytes) in r.answer.step ≡ Ok Step.Moved
       → moved_c bytes ≡ after_c r.answer.head.cell (record_of r.answer.head r.lists)
   unfolding moved_c
   move_rewrites e =
       let r = moved (head_of bytes) (state_in bytes) in
       let cell = r.answer.head.cell in
       rewritten_as (step_verdict r.answer.step) (move_answer cell r.answer.step) r.answer.head r.lists (ap step_verdict e)
-      ∙ ap (λ (s : Step). after_c (move_answer cell s) (record_of r.answer.head r.lists)) e
+      ∙ ap (λ (s : Result Step Reason). after_c (move_answer cell s) (record_of r.answer.head r.lists)) e
 
   -- Numbers -----------------------------------------------------------------------------------------------------------------------------
 
@@ -152,13 +153,13 @@ after_all_c bytes [] = bytes
 after_all_c bytes (call ∷ calls) = after_all_c (next_c bytes call) calls
 
 -- "Data once accepted are never found unfit after any accepted reports, plans and moves, in any order": nor is a record
-pub record_never_unfit : (calls : List CallC) (bytes : List ℕ) → load_check bytes own_room ≡ Accepted
-    → load_check (after_all_c bytes calls) own_room ≡ Accepted
+pub record_never_unfit : (calls : List CallC) (bytes : List ℕ) → load_check bytes own_room ≡ Ok tt
+    → load_check (after_all_c bytes calls) own_room ≡ Ok tt
 unfolding after_all_c
 record_never_unfit [] bytes ok = ok
 record_never_unfit (call ∷ calls) bytes ok = record_never_unfit calls (next_c bytes call) (stays call)
   where
-    stays : (call : CallC) → load_check (next_c bytes call) own_room ≡ Accepted
+    stays : (call : CallC) → load_check (next_c bytes call) own_room ≡ Ok tt
     stays (report c) = (report_on_record bytes c).stays_record ok
     stays plan = (plan_on_record bytes).stays_record ok
     stays move = (move_on_record bytes).stays_record ok

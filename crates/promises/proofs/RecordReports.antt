@@ -1,5 +1,6 @@
 -- "On one cart, reports made one right after another leave the same bytes in either order": of a record's own bytes.
 -- Assumes nothing.
+use Rattle.std.specs.Prelude.{Ok, Err}
 use mathlib.Core.Path.{◌≡◌, refl, sym, ap, ap₂, ◌∙◌}
 use mathlib.Core.List.{List, [], ◌∷◌}
 use Prim.Native.Nat.{ℕ, zero, suc, ◌<◌}
@@ -13,8 +14,7 @@ use Rattle.model.specs.Store.{load_check, loaded}
 use Rattle.model.specs.Report.{reported}
 use Rattle.model.specs.Controller.{own_room, AfterC, state_in, reported_c}
 use Rattle.model.specs.declared.Head.{Head}
-use Rattle.model.specs.declared.Verdict.{Verdict}
-use Rattle.model.specs.declared.Verdict.TheVariants.{Accepted, Refused}
+use Rattle.model.specs.Verdict.{Verdict}
 use Rattle.model.specs.declared.Changed.{Changed}
 use Rattle.model.specs.Fit.{Held}
 use Rattle.model.proofs.Calls.Acceptance.{not_both}
@@ -37,7 +37,7 @@ joined (suc n) (x ∷ a) (y ∷ b) l d f =
     ap₂ ◌∷◌ (f 0 (omega arith)) (joined n a b (omega (arith, l)) d (λ i k. f (suc i) (omega arith)))
 
 -- what load reads into room of its own
-own : (bytes : List ℕ) → load_check bytes own_room ≡ Accepted → (loaded bytes own_room).lists ≡ state_in bytes
+own : (bytes : List ℕ) → load_check bytes own_room ≡ Ok tt → (loaded bytes own_room).lists ≡ state_in bytes
 own bytes ok = go (load_is bytes own_room)
   where
     go : {r : After Changed} → Loading bytes own_room r → r.lists ≡ state_in bytes
@@ -69,7 +69,7 @@ module _ (head : Head) (p q : Lent) (a : Held head q) (beyond : LentBeyond (cell
       }
 
 -- a report over a record leaves the record of what the report leaves, also where it is refused
-report_leaves : (bytes : List ℕ) → load_check bytes own_room ≡ Accepted → (c : ℕ)
+report_leaves : (bytes : List ℕ) → load_check bytes own_room ≡ Ok tt → (c : ℕ)
     → (reported_c bytes c).bytes ≡ record_of (head_of bytes) (reported (head_of bytes) (state_in bytes) c).lists
 report_leaves bytes ok c = go (report_is (head_of bytes) (state_in bytes) c) refl
   where
@@ -82,7 +82,7 @@ report_leaves bytes ok c = go (report_is (head_of bytes) (state_in bytes) c) ref
         ∙ ap₂ record_of (ap (λ (r : After Changed). r.answer.head) q) (ap (λ (r : After Changed). r.lists) q)
 
 -- and a second report goes on from there
-module _ (bytes : List ℕ) (ok : load_check bytes own_room ≡ Accepted) where
+module _ (bytes : List ℕ) (ok : load_check bytes own_room ≡ Ok tt) where
   then_report : (c d : ℕ) → (reported_c (reported_c bytes c).bytes d).bytes
       ≡ record_of (head_of bytes) (reported (head_of bytes) (reported (head_of bytes) (state_in bytes) c).lists d).lists
   then_report c d =
@@ -91,7 +91,7 @@ module _ (bytes : List ℕ) (ok : load_check bytes own_room ≡ Accepted) where
       let a : Held head q = (report_keeps head (state_in bytes) c).held (load_held bytes own_room ok) in
       let fresh : LentBeyond (cells_of head) own_room (state_in bytes) = rw (own bytes ok) at (load_beyond bytes own_room) in
       let next = record_of head q in
-      let ok' : load_check next own_room ≡ Accepted = rw (report_leaves bytes ok c) at ((report_on_record bytes c).stays_record ok) in
+      let ok' : load_check next own_room ≡ Ok tt = rw (report_leaves bytes ok c) at ((report_on_record bytes c).stays_record ok) in
       let state : state_in next ≡ q = sym (own next ok') ∙ back head (state_in bytes) q a (report_beyond head (state_in bytes) c) fresh in
       ap (λ (b : List ℕ). (reported_c b d).bytes) (report_leaves bytes ok c)
       ∙ report_leaves next ok' d
@@ -103,8 +103,8 @@ pub record_reports_in_either_order : (bytes : List ℕ) (c d : ℕ) → (reporte
 record_reports_in_either_order bytes c d = go _ refl
   where
     go : (v : Verdict) → load_check bytes own_room ≡ v → (reported_c (reported_c bytes c).bytes d).bytes ≡ (reported_c (reported_c bytes d).bytes c).bytes
-    go Accepted ok =
+    go (Ok _) ok =
         then_report bytes ok c d ∙ ap (record_of (head_of bytes)) (reports_commute (head_of bytes) (state_in bytes) c d) ∙ sym (then_report bytes ok d c)
-    go (Refused why) f =
+    go (Err why) f =
         let same : (e : ℕ) → (reported_c bytes e).bytes ≡ bytes = λ e. ((report_on_record bytes e).unread why f).1 in
         ap (λ (b : List ℕ). (reported_c b d).bytes) (same c) ∙ same d ∙ sym (ap (λ (b : List ℕ). (reported_c b c).bytes) (same d) ∙ same c)

@@ -1,5 +1,6 @@
 -- What a test of a definition says is what a row of the table says; and a chain of tests gives a reason exactly as a chain of
 -- rows does. Assumes nothing.
+use Rattle.std.specs.Prelude.{Ok, Err}
 use mathlib.Core.Path.{◌≡◌, refl, sym, ap, ◌∙◌}
 use mathlib.Core.Logic.{◌⊎◌, inl, inr}
 use mathlib.Core.Bool.{Bool, true, false, not, ◌&&◌, ◌||◌, false≢true}
@@ -19,8 +20,7 @@ use Rattle.model.proofs.Calls.Soundness.{sound_fit, fit_sound}
 use Rattle.model.proofs.Grid.RouteLaws.{leads_goal}
 use Rattle.model.specs.Refusals.{refuse_if, and_then, too_short, any_short, any_outside}
 use Rattle.model.specs.declared.Reason.{Reason}
-use Rattle.model.specs.declared.Verdict.{Verdict}
-use Rattle.model.specs.declared.Verdict.TheVariants.{Accepted, Refused}
+use Rattle.model.specs.Verdict.{Verdict}
 use Rattle.model.proofs.Calls.Acceptance.{not_both}
 use Rattle.promises.specs.Table.{Row, first, after, Done, Some, this, that, BadSide, BadSides, ShorterThan, OffPlot, Unfit, RouteFrom, there}
 use Rattle.promises.specs.Table.{onward, Routeless}
@@ -143,13 +143,13 @@ too_short_law n l = less (length l) n
 
 -- a verdict refuses for a reason exactly when these rows give it
 pub record RowsFollow (v : Verdict) (rows : Reason → Type 0) : Type 0 where
-  pub given : (why : Reason) → v ≡ Refused why → rows why
-  pub gives : (why : Reason) → rows why → v ≡ Refused why
+  pub given : (why : Reason) → v ≡ Err why → rows why
+  pub gives : (why : Reason) → rows why → v ≡ Err why
 
-pub done : RowsFollow Accepted Done
+pub done : RowsFollow (Ok tt) Done
 done = record { given = λ why e. absurd (not_both e refl); gives = λ why. elim [ ] }
 
-same_reason : {why other : Reason} → ◌≡◌ {A = Verdict} (Refused why) (Refused other) → why ≡ other
+same_reason : {why other : Reason} → ◌≡◌ {A = Verdict} (Err why) (Err other) → why ≡ other
 same_reason e = cc
 
 -- a test and what comes after it, which may count on the test
@@ -158,13 +158,13 @@ pub row_given : {b : Bool} {P : Type 0} {reason : Reason} {next : Verdict} {late
 row_given {b = true} {P = P} {reason = reason} {next = next} {later = later} t f =
     record { given = λ why e. rw (← same_reason e) (first (t.yes refl)); gives = go }
   where
-    go : (why : Reason) → Row P reason later why → refuse_if true reason next ≡ Refused why
+    go : (why : Reason) → Row P reason later why → refuse_if true reason next ≡ Err why
     go why (first p) = refl
     go why (after n l) = absurd (n (t.yes refl))
 row_given {b = false} {P = P} {reason = reason} {next = next} {later = later} t f =
     record { given = λ why e. after (t.no refl) ((f refl).given why e); gives = go }
   where
-    go : (why : Reason) → Row P reason later why → refuse_if false reason next ≡ Refused why
+    go : (why : Reason) → Row P reason later why → refuse_if false reason next ≡ Err why
     go why (first p) = absurd (t.no refl p)
     go why (after n l) = (f refl).gives why l
 
@@ -184,7 +184,7 @@ refuse_then false reason v next = refl
 pub record Chain (v next : Verdict) (rows : Reason → Type 0) : Type 0 where
   pub together : RowsFollow (and_then v next) rows
 
-pub chain_end : {next : Verdict} {rows : Reason → Type 0} → RowsFollow next rows → Chain Accepted next rows
+pub chain_end : {next : Verdict} {rows : Reason → Type 0} → RowsFollow next rows → Chain (Ok tt) next rows
 chain_end f = record { together = f }
 
 pub row_then : {b : Bool} {P : Type 0} {reason : Reason} {v next : Verdict} {later : Reason → Type 0} → Tells b P → (b ≡ false → Chain v next later)
@@ -193,9 +193,9 @@ row_then {b = b} {reason = reason} {v = v} {next = next} t f =
     record { together = same_verdict (refuse_then b reason v next) (row_given t (λ e. (f e).together)) }
 
 pub then_then : (u v next : Verdict) → and_then (and_then u v) next ≡ and_then u (and_then v next)
-then_then Accepted v next = refl
-then_then (Refused why) v next = refl
+then_then (Ok _) v next = refl
+then_then (Err why) v next = refl
 
-pub then_accepted : (v : Verdict) → and_then v Accepted ≡ v
-then_accepted Accepted = refl
-then_accepted (Refused why) = refl
+pub then_accepted : (v : Verdict) → and_then v (Ok tt) ≡ v
+then_accepted (Ok _) = refl
+then_accepted (Err why) = refl

@@ -1,5 +1,6 @@
 -- The verdict of each call, and that it follows the rows of the table.
 -- Assumes nothing.
+use Rattle.std.specs.Prelude.{Ok}
 use mathlib.Core.Path.{◌≡◌, sym}
 use mathlib.Core.Bool.{not}
 use mathlib.Core.List.{List, [], ◌∷◌, ◌++◌}
@@ -20,8 +21,7 @@ use Rattle.model.specs.Controller.{own_room, state_in}
 use Rattle.model.specs.declared.Head.{Head}
 use Rattle.model.specs.declared.Reason.{Reason}
 use Rattle.model.specs.declared.Reason.TheVariants.{NoRoute}
-use Rattle.model.specs.declared.Verdict.{Verdict}
-use Rattle.model.specs.declared.Verdict.TheVariants.{Accepted}
+use Rattle.model.specs.Verdict.{Verdict}
 use Rattle.model.proofs.Calls.Acceptance.{held_accepts}
 use Rattle.model.proofs.Calls.ReportLaws.{report_rest_law}
 use Rattle.model.proofs.Record.RecordLaws.{load_held}
@@ -55,7 +55,7 @@ module _ (head : Head) (p : Lent) (buffers : List (List ℕ)) (names : List ℕ)
 
 -- move's 6: "on the goal, arrived", where a route stands too
 abbrev pub move_check : Head → Lent → Verdict
-move_check head p = and_then (acceptance head p) (refuse_if (not (stands head p)) NoRoute Accepted)
+move_check head p = and_then (acceptance head p) (refuse_if (not (stands head p)) NoRoute (Ok tt))
 
 -- what a call over a record asks
 abbrev pub record_check : (bytes : List ℕ) → Verdict → Verdict
@@ -80,7 +80,7 @@ listed head p buffer =
     checked_then head p (buffers_of p) (cells_named head) (row (routeless head p) (row (too_short_law (length (route head p)) buffer) done))
 
 -- load, and what may count on it
-loaded_then : (bytes : List ℕ) (p : Lent) {next : Verdict} {later : Reason → Type 0} → (load_check bytes p ≡ Accepted → RowsFollow next later)
+loaded_then : (bytes : List ℕ) (p : Lent) {next : Verdict} {later : Reason → Type 0} → (load_check bytes p ≡ Ok tt → RowsFollow next later)
     → RowsFollow (and_then (load_check bytes p) next) (LoadRows bytes p later)
 unfolding load_check
 loaded_then bytes p f =

@@ -7,7 +7,7 @@ use mathlib.Core.List.{List}
 use native.Mathlib.Omega.{arith}
 use lib.ListN.{get_or, length, set, length-set}
 use lib.Seq.{get_or-set_same, get_or-set_other}
-use Rattle.queue.specs.Queue.{cell, Queue, Keys, Gap, GapKeys, Rising, Risen}
+use Rattle.queue.specs.Queue.{cell, IsQueue, Keys, Gap, GapKeys, Rising, Risen}
 use Rattle.model.proofs.Lists.Choices.{same_or}
 use Rattle.queue.proofs.Gaps.{room_kept, mk, m_hi, m_entry, m_away, m_keys}
 
@@ -103,7 +103,7 @@ module _ {n len : ℕ} {h : List ℕ} {q : List ℕ} {i v : ℕ} (r : Rising n l
   pub e_qo : (x : ℕ) → (x ≡ v % 65536 → ⊥) → get_or (set q (v % 65536) i) x 0 ≡ get_or q x 0
   e_qo x w = get_or-set_other q (v % 65536) x i 0 w
 
-  pub filled : Queue n len (set h i v) (set q (v % 65536) i)
+  pub filled : IsQueue n len (set h i v) (set q (v % 65536) i)
   filled = record {
     room = room_kept _ _ _ _ r.gap.room;
     small = r.gap.small;
@@ -130,17 +130,6 @@ module _ {n len : ℕ} {h : List ℕ} {q : List ℕ} {i v : ℕ} (r : Rising n l
         record { low = rw e t.low; high = rw e t.high; at = rw (e, e_ho (get_or q x 0) (k.off x a b s)) t.at; named = t.named })
         (same_or x (v % 65536));
   }
-
--- ---- as the functions cite it
-pub climb_cell : {n len : ℕ} {h₀ : List ℕ} {q₀ : List ℕ} {i₀ v : ℕ} {h : List ℕ} {q : List ℕ} {i : ℕ} (c : ℕ) → Climb n len h₀ q₀ i₀ v h q i
-    → c ≡ cell h (i / 2) → v < get_or h (i / 2) 0 → c < length q
-climb_cell {n} {len} {h₀} {q₀} {i₀} {v} {h} {q} {i} c s e l =
-    omega (
-      arith,
-      e,
-      s.rising.gap.room.places,
-      (s.rising.gap.entry (i / 2) (u_p1 s.rising l) (u_p2 s.rising l) (u_pz s.rising l)).inside,
-    )
 
 pub climb_end : {n len : ℕ} {h₀ : List ℕ} {q₀ : List ℕ} {i₀ v : ℕ} {h : List ℕ} {q : List ℕ} {i : ℕ} (c : ℕ) → Climb n len h₀ q₀ i₀ v h q i
     → c ≡ v % 65536 → get_or h (i / 2) 0 ≤ v → Risen n len h₀ q₀ i₀ v (set h i v) (set q c i)

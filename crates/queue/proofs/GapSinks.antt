@@ -7,7 +7,7 @@ use mathlib.Core.List.{List}
 use native.Mathlib.Omega.{arith}
 use lib.ListN.{get_or, length, set, length-set}
 use lib.Seq.{get_or-set_other}
-use Rattle.queue.specs.Queue.{none, cell, Lesser, Gap, GapKeys, Rising, Sunk}
+use Rattle.queue.specs.Queue.{none, cell, Lesser, Gap, GapKeys}
 use Rattle.model.proofs.Lists.Choices.{same_or}
 use Rattle.queue.proofs.Gaps.{room_kept, m_hi, m_entry, m_away, m_keys}
 
@@ -99,23 +99,3 @@ fall_down {n} {len} {h₀} {q₀} {v} {h} {q} {i} m c s l w e =
       h_same = length-set h i (get_or h m 0) ∙ s.h_same;
       q_same = length-set q (cell h m) i ∙ s.q_same;
     })
-
--- at a leaf anything may be put
-pub leaf_rising : {n len : ℕ} {h : List ℕ} {q : List ℕ} {i v : ℕ} → Gap n len h q i v → len < 2 * i → Rising n len h q i v
-leaf_rising g l = record { gap = g; over = λ j a b e. absurd (omega arith) }
-
-pub fall_cell : {n len : ℕ} {h₀ : List ℕ} {q₀ : List ℕ} {v : ℕ} {h : List ℕ} {q : List ℕ} {i : ℕ} (m c : ℕ) → Fall n len h₀ q₀ v h q i → 2 * i ≤ len
-    → Lesser (get_or h (2 * i) 0) (get_or h (2 * i + 1) 0) (2 * i) m → c ≡ cell h m → c < length q
-fall_cell {n} {len} {h₀} {q₀} {v} {h} {q} {i} m c s l w e =
-    let o = fall_in m s l w in
-    omega (arith, e, s.gap.room.places, (s.gap.entry m (omega (arith, o, s.gap.low)) o.1 (omega (arith, o, s.gap.low))).inside)
-
--- no child is less than v, or there is none
-pub fall_stop : {n len : ℕ} {h₀ : List ℕ} {q₀ : List ℕ} {v : ℕ} {h : List ℕ} {q : List ℕ} {i : ℕ} (m : ℕ) → Fall n len h₀ q₀ v h q i
-    → Lesser (get_or h (2 * i) 0) (get_or h (2 * i + 1) 0) (2 * i) m → v ≤ get_or h m 0 → Sunk n len h₀ q₀ v i h q
-fall_stop {n} {len} {h₀} {q₀} {v} {h} {q} {i} m s w l =
-    record { rising = record { gap = s.gap; over = λ j a b t. omega (arith, l, fall_least h m i w j t) }; keys = s.keys }
-
-pub fall_end : {n len : ℕ} {h₀ : List ℕ} {q₀ : List ℕ} {v : ℕ} {h : List ℕ} {q : List ℕ} {i : ℕ} → Fall n len h₀ q₀ v h q i → len < 2 * i
-    → Sunk n len h₀ q₀ v i h q
-fall_end s l = record { rising = leaf_rising s.gap l; keys = s.keys }

@@ -6,11 +6,11 @@ use mathlib.Core.Logic.{⊎_elim}
 use mathlib.Core.List.{List}
 use native.Mathlib.Omega.{arith}
 use lib.ListN.{get_or}
-use Rattle.queue.specs.Queue.{none, cell, Queue, Keys}
+use Rattle.queue.specs.Queue.{none, cell, IsQueue, Keys}
 use Rattle.model.proofs.Lists.Choices.{le_or}
 
 -- ---- the first entry is the least key
-module _ {n len : ℕ} {h : List ℕ} {q : List ℕ} (g : Queue n len h q) where
+module _ {n len : ℕ} {h : List ℕ} {q : List ℕ} (g : IsQueue n len h q) where
   pub first_least : (m j : ℕ) → j ≤ m → 1 ≤ j → j ≤ len → get_or h 1 0 ≤ get_or h j 0
   first_least zero j a b l = absurd (omega arith)
   first_least (suc m) j a b l =

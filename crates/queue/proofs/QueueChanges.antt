@@ -2,20 +2,18 @@
 -- Assumes nothing.
 use Prim.Native.Nat.{ℕ, ◌+◌, ◌-◌, ◌/◌, ◌%◌, ◌≤◌, ◌<◌}
 use mathlib.Core.Path.{◌≡◌, sym, ap, ◌∙◌}
-use mathlib.Core.Logic.{⊎_elim}
 use mathlib.Core.List.{List}
 use native.Mathlib.Omega.{arith}
 use lib.ListN.{get_or, set}
-use lib.Seq.{get_or-set_same, get_or-set_other}
-use Rattle.queue.specs.Queue.{none, cell, Entry, Queue, Back, Keys, Gap, GapKeys, Rising, Risen, Sunk, Absent, Waits, Lowered, Popped}
+use lib.Seq.{get_or-set_other}
+use Rattle.queue.specs.Queue.{none, cell, Entry, IsQueue, Back, Keys, Gap, GapKeys, Rising, Risen, Sunk, Absent, Waits, Lowered, Popped}
 use Rattle.walks.proofs.Pigeonhole.{pigeonhole}
-use Rattle.model.proofs.Lists.Choices.{same_or}
 use Rattle.queue.proofs.Gaps.{room_heap, mk, apart, same_cell}
 use Rattle.queue.proofs.GapRises.{}
 use Rattle.queue.proofs.GapSinks.{}
 
 -- NO MORE ENTRIES THAN CELLS: each entry is the key of a cell of its own.
-pub queue_fits : {n len : ℕ} {h : List ℕ} {q : List ℕ} → Queue n len h q → len ≤ n
+pub queue_fits : {n len : ℕ} {h : List ℕ} {q : List ℕ} → IsQueue n len h q → len ≤ n
 queue_fits {n} {len} {h} {q} s = pigeonhole len n {f = λ j. cell h (j + 1)} (record {
   below = λ j l. (s.entry (j + 1) (omega arith) (omega arith)).inside;
   apart =
@@ -52,15 +50,6 @@ pub back_to : {f : ℕ → ℕ} {len : ℕ} {h : List ℕ} {q : List ℕ} {x : �
     → Back f' len' h q x
 back_to f' len' e l r = record { low = r.low; high = omega (arith, r.high, l); at = r.at ∙ sym e; named = rw e r.named }
 
-pub push_keys : {n len : ℕ} {h : List ℕ} {q : List ℕ} {v : ℕ} → Absent n len h q v → (f f' : ℕ → ℕ) → Keys f n len h q → f' (v % 65536) ≡ v
-    → ((x : ℕ) → (x ≡ v % 65536 → ⊥) → f' x ≡ f x) → GapKeys f' n (len + 1) h q (len + 1) v
-push_keys {n} {len} {h} {q} {v} s f f' k e o = record {
-  own = e;
-  is = λ j a b w. o (cell h j) (s.absent j a (omega arith)) ∙ k.is j a (omega arith);
-  back = λ x a b w. back_to f' (len + 1) (o x w) (omega arith) (k.back x a (rw (o x w) at b));
-  off = λ x a b w t. let r = k.back x a (rw (o x w) at b) in omega (arith, r.high, t);
-}
-
 -- ---- the key of a cell that waits is lowered
 pub lower_rising : {n len : ℕ} {h : List ℕ} {q : List ℕ} {v : ℕ} (i : ℕ) → i ≡ get_or q (v % 65536) 0 → Waits n len h q v → Rising n len h q i v
 lower_rising {n} {len} {h} {q} {v} i e s = let g = s.queue in let l = queue_fits g in rw e (record {
@@ -93,7 +82,7 @@ lower_keys {n} {len} {h} {q} {v} i e s f f' k u o = rw e (record {
 })
 
 -- ---- the first goes out: the last is in hand, and entry 1 is free
-module _ {n len : ℕ} {h : List ℕ} {q : List ℕ} (g : Queue n len h q) (l : 1 < len) where
+module _ {n len : ℕ} {h : List ℕ} {q : List ℕ} (g : IsQueue n len h q) (l : 1 < len) where
   pub p_ho : (j : ℕ) → (j ≡ len → ⊥) → get_or (set h len none) j 0 ≡ get_or h j 0
   p_ho j w = get_or-set_other h len j none 0 w
 
@@ -118,9 +107,6 @@ module _ {n len : ℕ} {h : List ℕ} {q : List ℕ} (g : Queue n len h q) (l : 
     order = λ j a b w x. rw (p_ho j (omega arith), p_ho (j / 2) (omega arith)) (g.order j a (omega arith));
     bridge = λ j a b e. omega (arith, p_ho 0 (omega arith), g.base);
   }
-
-  pub pop_stop : get_or (set h len none) (len - 1 + 1) 0 ≡ none
-  pop_stop = let e : len - 1 + 1 ≡ len = omega arith in rw e (get_or-set_same h len none 0 (omega (arith, queue_fits g, g.room.heaps)))
 
   pub pop_keys : (f f' : ℕ → ℕ) → Keys f n len h q → f' (cell h 1) ≡ none → ((x : ℕ) → (x ≡ cell h 1 → ⊥) → f' x ≡ f x)
       → GapKeys f' n (len - 1) (set h len none) q 1 (get_or h len 0)
@@ -149,33 +135,10 @@ module _ {n len : ℕ} {h : List ℕ} {q : List ℕ} (g : Queue n len h q) (l : 
       at_last : (x : ℕ) → x < n → f' x < none → (x ≡ cell h len → ⊥) → get_or q x 0 ≡ len → ⊥
       at_last x a b w t = let r = old x a b in w (sym r.named ∙ ap (λ (y : ℕ). y % 65536) (sym r.at ∙ ap (λ (y : ℕ). get_or h y 0) t))
 
--- the only one goes out
-pub pop_only : {n len : ℕ} {h : List ℕ} {q : List ℕ} → Queue n len h q → 1 ≤ len → len ≤ 1 → Popped n len h q (set h len none) q
-pop_only {n} {len} {h} {q} g l m = record {
-  queue = record {
-    room = room_heap _ _ g.room;
-    small = g.small;
-    base = get_or-set_other h len 0 none 0 (omega arith) ∙ g.base;
-    entry = λ j a b. absurd (omega arith);
-    order = λ j a b. absurd (omega arith);
-  };
-  keys = λ f f' k u o. record {
-    is = λ j a b. absurd (omega arith);
-    back = λ x a b. ⊎_elim (λ (s : x ≡ cell h 1). absurd (omega (arith, b, ap f' s, u)))
-        (λ (s : x ≡ cell h 1 → ⊥). let r = k.back x a (rw (o x s) at b) in
-        absurd (s (sym r.named ∙ ap (λ (y : ℕ). y % 65536) (sym r.at ∙ ap (λ (y : ℕ). get_or h y 0) (omega (arith, r.low, r.high, m))))))
-        (same_or x (cell h 1));
-  };
-}
-
 pub lowered : {n len : ℕ} {h : List ℕ} {q : List ℕ} {v : ℕ} {h' : List ℕ} {q' : List ℕ} (i : ℕ) → i ≡ get_or q (v % 65536) 0 → Waits n len h q v
     → Risen n len h q i v h' q' → Lowered n len h q v len h' q'
 lowered i e s r = record { queue = r.queue; keys = λ f f' k u o. r.keys f' (lower_keys i e s f f' k u o) }
 
-pub pushed : {n len : ℕ} {h : List ℕ} {q : List ℕ} {v : ℕ} {h' : List ℕ} {q' : List ℕ} → Absent n len h q v
-    → Risen n (len + 1) h q (len + 1) v h' q' → Lowered n len h q v (len + 1) h' q'
-pushed s r = record { queue = r.queue; keys = λ f f' k u o. r.keys f' (push_keys s f f' k u o) }
-
-pub popped : {n len : ℕ} {h : List ℕ} {q : List ℕ} {h₁ : List ℕ} {q₁ : List ℕ} {h₂ : List ℕ} {q₂ : List ℕ} {i : ℕ} → Queue n len h q → 1 < len
+pub popped : {n len : ℕ} {h : List ℕ} {q : List ℕ} {h₁ : List ℕ} {q₁ : List ℕ} {h₂ : List ℕ} {q₂ : List ℕ} {i : ℕ} → IsQueue n len h q → 1 < len
     → Sunk n (len - 1) (set h len none) q (get_or h len 0) i h₁ q₁ → Risen n (len - 1) h₁ q₁ i (get_or h len 0) h₂ q₂ → Popped n len h q h₂ q₂
 popped g l a b = record { queue = b.queue; keys = λ f f' k u o. b.keys f' (a.keys f' (pop_keys g l f f' k u o)) }

@@ -31,7 +31,7 @@ pub record QueueRoom (n : ℕ) (h q : List ℕ) : Type 0 where
   pub heaps : heap_room n ≤ length h
   pub places : n ≤ length q
 
-pub record Queue (n len : ℕ) (h q : List ℕ) : Type 0 where
+pub record IsQueue (n len : ℕ) (h q : List ℕ) : Type 0 where
   pub room : QueueRoom n h q
   pub small : n ≤ 65534
   pub base : get_or h 0 0 ≡ 0
@@ -77,7 +77,7 @@ pub record Rising (n len : ℕ) (h q : List ℕ) (i v : ℕ) : Type 0 where
   pub over : (j : ℕ) → 1 ≤ j → j ≤ len → j / 2 ≡ i → v ≤ get_or h j 0
 
 pub record Risen (n len : ℕ) (h q : List ℕ) (i v : ℕ) (h' q' : List ℕ) : Type 0 where
-  pub queue : Queue n len h' q'
+  pub queue : IsQueue n len h' q'
   pub keys : (f : ℕ → ℕ) → GapKeys f n len h q i v → Keys f n len h' q'
 
 pub record Sunk (n len : ℕ) (h q : List ℕ) (v r : ℕ) (h' q' : List ℕ) : Type 0 where
@@ -85,13 +85,13 @@ pub record Sunk (n len : ℕ) (h q : List ℕ) (v r : ℕ) (h' q' : List ℕ) : 
   pub keys : (f : ℕ → ℕ) → GapKeys f n len h q 1 v → GapKeys f n len h' q' r v
 
 pub record Absent (n len : ℕ) (h q : List ℕ) (v : ℕ) : Type 0 where
-  pub queue : Queue n len h q
+  pub queue : IsQueue n len h q
   pub inside : v % 65536 < n
   pub under : v < none
   pub absent : (j : ℕ) → 1 ≤ j → j ≤ len → cell h j ≡ v % 65536 → ⊥
 
 pub record Waits (n len : ℕ) (h q : List ℕ) (v : ℕ) : Type 0 where
-  pub queue : Queue n len h q
+  pub queue : IsQueue n len h q
   pub inside : v % 65536 < n
   pub under : v < none
   pub low : 1 ≤ get_or q (v % 65536) 0
@@ -101,10 +101,10 @@ pub record Waits (n len : ℕ) (h q : List ℕ) (v : ℕ) : Type 0 where
 
 -- the cell of v has the key v, and no other cell's key changed
 pub record Lowered (n len : ℕ) (h q : List ℕ) (v len' : ℕ) (h' q' : List ℕ) : Type 0 where
-  pub queue : Queue n len' h' q'
+  pub queue : IsQueue n len' h' q'
   pub keys : (f f' : ℕ → ℕ) → Keys f n len h q → f' (v % 65536) ≡ v → ((x : ℕ) → (x ≡ v % 65536 → ⊥) → f' x ≡ f x) → Keys f' n len' h' q'
 
 -- the cell of entry 1 no longer waits, and no other cell's key changed
 pub record Popped (n len : ℕ) (h q h' q' : List ℕ) : Type 0 where
-  pub queue : Queue n (len - 1) h' q'
+  pub queue : IsQueue n (len - 1) h' q'
   pub keys : (f f' : ℕ → ℕ) → Keys f n len h q → f' (cell h 1) ≡ none → ((x : ℕ) → (x ≡ cell h 1 → ⊥) → f' x ≡ f x) → Keys f' n (len - 1) h' q'

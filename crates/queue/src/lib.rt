@@ -1,18 +1,19 @@
-// The queue of waiting cells: an indexed binary heap of packed keys. heap holds keys in entries 1 .. len, with 0 in entry 0;
+// The queue of waiting cells: an indexed binary heap of packed keys. heap holds keys in entries 1 to waiting, with 0 in entry 0;
 // place holds where each waiting cell's key stands. Sifting moves a hole, and stores the key in hand once, at the end.
 
 #![tactic(auto)]
 
-ghost use Rattle.std.specs.Prelude.{◌≡◌, ◌+◌, ◌*◌, ◌%◌, ◌<◌, ◌≤◌, get_or};
-ghost use Rattle.queue.specs.Queue.{none, key_of, Lesser, Queue, Rising, Risen, Gap, Sunk, Lowered, Absent, Waits, Popped};
+ghost use Rattle.std.specs.Prelude.{◌≡◌, ◌+◌, ◌-◌, ◌*◌, ◌%◌, ◌<◌, ◌≤◌, length, get_or};
+ghost use Rattle.queue.specs.Queue.{none, key_of, cell, Lesser, IsQueue, Rising, Risen, Gap, Sunk, Lowered, Absent, Waits, Popped};
+ghost use Rattle.queue.specs.Same.{SameQueue};
 
 use model::Head;
 
 // The length of a heap for the largest plot: an entry before the keys, and room for two behind them.
 pub const ROOM: usize = Head::MAX_CELLS + 3;
 
-// No cell: greater than every key.
-pub const NONE: u64 = 0xffff_ffff_ffff_ffff;
+// No key, and greater than each: it stands behind the keys, so that sink reads two children of an entry without a test for the end.
+pub const NONE: u64 = u64::MAX;
 
 // The lesser key is the cell to take first: smaller cost + learned, then larger cost, then lower cell number.
 pub fn key_of(cost: u16, learned: u16, cell: u16) -> u64
@@ -29,7 +30,7 @@ pub fn cell_of(k: u64) -> usize
     (k % 65536) as usize
 }
 
-// Which of the keys at k and k + 1 is the lesser.
+// Which of the keys at k and k + 1 is the lesser. (No `min`: it is asked which, and not for the value.)
 fn lesser(a: u64, b: u64, k: usize) -> usize
     requires { k < 1000000 }
     ensures { Lesser a b k result }
@@ -39,6 +40,9 @@ fn lesser(a: u64, b: u64, k: usize) -> usize
     }
     k
 }
+
+// rise and sink take the queue's lists and not the queue: their loops write to slices in locals. (They go by halves and doubles of an
+// index, up and down the heap, so no range fits.)
 
 // Entry `at` is free: greater parents come down one step each, and v is put where they left.
 fn rise(heap: &mut [u64], place: &mut [u16], n: usize, len: usize, at: usize, v: u64)
@@ -76,33 +80,64 @@ fn sink(heap: &mut [u64], place: &mut [u16], n: usize, len: usize, v: u64) -> us
     i
 }
 
-// A cell that does not wait comes in with key v.
-pub fn push(heap: &mut [u64], place: &mut [u16], n: usize, len: usize, v: u64)
-    requires { Absent n len heap.old place.old v }
-    ensures { Lowered n len heap.old place.old v (len + 1) heap.new place.new }
-{
-    rise(heap, place, n, len + 1, len + 1, v);
+// The waiting cells of a plot with `cells` cells, `waiting` of them.
+#[derive(Drop)]
+pub struct Queue<'a> {
+    pub heap: &'a mut [u64],
+    pub place: &'a mut [u16],
+    pub cells: usize,
+    pub waiting: usize,
 }
 
-// The key of a waiting cell is lowered to v.
-pub fn lower(heap: &mut [u64], place: &mut [u16], n: usize, len: usize, v: u64)
-    requires { Waits n len heap.old place.old v }
-    ensures { Lowered n len heap.old place.old v len heap.new place.new }
-{
-    let i = place[cell_of(v)] as usize;
-    rise(heap, place, n, len, i, v);
-}
+impl<'a> Queue<'a> {
+    // The cell to take first.
+    pub fn first(&self) -> usize
+        requires { 1 < length self.now.heap.now }
+        ensures { result ≡ cell self.now.heap.now 1 }
+    {
+        cell_of(self.heap[1])
+    }
 
-// The least key goes out.
-pub fn pop(heap: &mut [u64], place: &mut [u16], n: usize, len: usize)
-    requires { (1 ≤ len) × Queue n len heap.old place.old }
-    ensures { Popped n len heap.old place.old heap.new place.new }
-{
-    let v = heap[len];
-    heap[len] = NONE;
-    if 1 < len {
-        let m = len - 1;
-        let i = sink(heap, place, n, m, v);
-        rise(heap, place, n, m, i, v);
+    // A cell that does not wait comes in with key v.
+    pub fn push(&mut self, v: u64)
+        requires { Absent self.old.cells self.old.waiting self.old.heap.now self.old.place.now v }
+        ensures keys { Lowered self.old.cells self.old.waiting self.old.heap.now self.old.place.now v
+            (self.old.waiting + 1) self.new.heap.now self.new.place.now }
+        ensures waiting { self.new.waiting ≡ self.old.waiting + 1 }
+        ensures same { SameQueue self.old self.new }
+    {
+        let len = self.waiting + 1;
+        rise(self.heap, self.place, self.cells, len, len, v);
+        self.waiting = len;
+    }
+
+    // The key of a waiting cell is lowered to v.
+    pub fn lower(&mut self, v: u64)
+        requires { Waits self.old.cells self.old.waiting self.old.heap.now self.old.place.now v }
+        ensures keys { Lowered self.old.cells self.old.waiting self.old.heap.now self.old.place.now v
+            self.old.waiting self.new.heap.now self.new.place.now }
+        ensures waiting { self.new.waiting ≡ self.old.waiting }
+        ensures same { SameQueue self.old self.new }
+    {
+        let at = self.place[cell_of(v)] as usize;
+        rise(self.heap, self.place, self.cells, self.waiting, at, v);
+    }
+
+    // The least key goes out.
+    pub fn pop(&mut self)
+        requires { (1 ≤ self.old.waiting) × IsQueue self.old.cells self.old.waiting self.old.heap.now self.old.place.now }
+        ensures keys { Popped self.old.cells self.old.waiting self.old.heap.now self.old.place.now
+            self.new.heap.now self.new.place.now }
+        ensures waiting { self.new.waiting ≡ self.old.waiting - 1 }
+        ensures same { SameQueue self.old self.new }
+    {
+        let len = self.waiting;
+        let v = self.heap[len];
+        self.heap[len] = NONE;
+        self.waiting -= 1;
+        if 1 < len {
+            let i = sink(self.heap, self.place, self.cells, self.waiting, v);
+            rise(self.heap, self.place, self.cells, self.waiting, i, v);
+        }
     }
 }

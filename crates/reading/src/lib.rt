@@ -16,6 +16,7 @@ pub fn read_full<R: Read>(input: &mut R, buffer: &mut [u8]) -> io::Result<usize>
     ensures end { IfOk result (λ got. got < length buffer.new → IsAtEnd (R.remaining input.new)) }
 {
     let mut got = 0;
+    // (By hand: std's `read_exact` counts no bytes of an input that ends too soon, and its `read_to_end` needs a heap.)
     while got < buffer.len() {
         let more = input.read(&mut buffer[got..])?;
         if more == 0 {

@@ -1,3 +1,3 @@
--- Four bits spread over four bytes, and the two bytes of a number exchanged.
-pub mod ByteExchange
+-- Four bits spread over four bytes, and bytes that are copied.
+pub mod Copied
 pub mod SpreadBits

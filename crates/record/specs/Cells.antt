@@ -19,10 +19,3 @@ pub record Spread (v x : ℕ) : Type 0 where
 -- l with the four bytes of x from place c on, the lowest first
 unfoldable pub four_put : (x c : ℕ) (l : List ℕ) → List ℕ
 four_put x c l = set (set (set (set l c (x % 256)) (c + 1) (x / 256 % 256)) (c + 2) (x / 65536 % 256)) (c + 3) (x / 16777216 % 256)
-
--- the learned value of cell c with its first byte as the low one, and a number with its two bytes exchanged
-unfoldable pub low_first : (part : List ℕ) (c : ℕ) → ℕ
-low_first part c = byte_of part (2 * c) + byte_of part (2 * c + 1) * 256
-
-unfoldable pub exchanged : ℕ → ℕ
-exchanged x = x % 256 * 256 + x / 256

@@ -1,14 +1,13 @@
 -- Whether bytes are a record, field by field: what is tested of each part that begins where a field begins, as Booleans
 -- that compute. All together they say what `sides_formed` and `formed` say (proofs/form/FormIs).
-use Rattle.std.specs.Prelude.{ℕ, ◌*◌, ◌/◌, ◌%◌, ◌^◌, ◌≡◌, Bool, false, not, ◌&&◌, ◌||◌, List, length, get_or, drop, leb, eqb}
+use Rattle.std.specs.Prelude.{ℕ, ◌*◌, ◌/◌, ◌%◌, ◌^◌, ◌≡◌, Bool, false, not, ◌&&◌, ◌||◌, List, length, get_or, drop, leb, eqb, Ok}
 use Rattle.model.specs.Plot.{bad_sides}
 use Rattle.model.specs.Head.{cells_of}
 use Rattle.model.specs.Refusals.{refuse_if}
 use Rattle.model.specs.Record.{ground_size, width_at, height_at, goal_at, cell_at, ground_at, learned_at, link_at, record_length, byte_of, head_of}
 use Rattle.model.specs.declared.Head.{Head}
 use Rattle.model.specs.declared.Reason.TheVariants.{Sides, Form}
-use Rattle.model.specs.declared.Verdict.{Verdict}
-use Rattle.model.specs.declared.Verdict.TheVariants.{Accepted}
+use Rattle.model.specs.Verdict.{Verdict}
 
 -- "one byte tag, two bytes length (big-endian)": the part begins as a field of this many bytes does
 unfoldable pub begins : (tag size : ℕ) (part : List ℕ) → Bool
@@ -43,7 +42,7 @@ unfoldable pub form_check : (bytes : List ℕ) → Verdict
 form_check bytes =
     refuse_if (not (sides_test bytes)) Form
     (refuse_if (bad_sides (head_of bytes).width (head_of bytes).height) Sides
-    (refuse_if (not (rest_test (cells_of (head_of bytes)) bytes)) Form Accepted))
+    (refuse_if (not (rest_test (cells_of (head_of bytes)) bytes)) Form (Ok tt)))
 
 -- what they leave: good sides, and as many bytes as a record of so many cells has
 pub record Formed (head : Head) (bytes : List ℕ) : Type 0 where

@@ -3,3 +3,4 @@ pub mod Written
 pub mod Form
 pub mod Cells
 pub mod Load
+pub mod Tags

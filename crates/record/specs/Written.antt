@@ -16,9 +16,9 @@ eight_bits ground c =
     get_or ground c 0 + 2 * get_or ground (c + 1) 0 + 4 * get_or ground (c + 2) 0 + 8 * get_or ground (c + 3) 0
     + 16 * (get_or ground (c + 4) 0 + 2 * get_or ground (c + 5) 0 + 4 * get_or ground (c + 6) 0 + 8 * get_or ground (c + 7) 0)
 
--- l with the two bytes of x from place c on, the low one first
-unfoldable pub two_put : (x c : ℕ) (l : List ℕ) → List ℕ
-two_put x c l = set (set l c (x % 256)) (c + 1) (x / 256)
+-- l with the two bytes of x from place c on, the high one first
+unfoldable pub pair_put : (x c : ℕ) (l : List ℕ) → List ℕ
+pair_put x c l = set (set l c (x / 256)) (c + 1) (x % 256)
 
 -- the head's numbers fit their fields, and these fit the buffer
 pub record Headable (head : Head) (buffer : List ℕ) : Type 0 where

@@ -9,19 +9,20 @@ ghost use Rattle.record.specs.Form.{sides_test, rest_test, form_check};
 
 use crate::fields::{begins, big_of, byte_of, read_ground, read_learned, read_links, spare_clear};
 use crate::places::{
-    CELL_AT, GOAL_AT, GROUND_AT, HEIGHT_AT, WIDTH_AT, ground_size, learned_at, link_at,
+    CELL_AT, GOAL_AT, GROUND_AT, HEIGHT_AT, Tag, WIDTH_AT, ground_size, learned_at, link_at,
     record_length,
 };
-use model::{Head, Reason, Verdict};
+use model::{Head, Reason};
 
 // Whether the first two fields are in form.
+#[tactic(auto, unfolding(crate::specs::Form::sides_test))]
 fn sides_test(bytes: &[u8]) -> bool
     ensures { result ≡ sides_test bytes.now }
 {
     if bytes.len() < GOAL_AT {
         return false;
     }
-    begins(&bytes[WIDTH_AT..], 1, 1) & begins(&bytes[HEIGHT_AT..], 2, 1)
+    begins(&bytes[WIDTH_AT..], Tag::Width, 1) & begins(&bytes[HEIGHT_AT..], Tag::Height, 1)
 }
 
 // Whether the rest is, of a record of n cells, and nothing comes after.
@@ -34,14 +35,16 @@ fn rest_test(bytes: &[u8], n: usize) -> bool
     }
     let at_learned = learned_at(n);
     let at_link = link_at(n);
-    begins(&bytes[GOAL_AT..], 3, 2)
-        & (begins(&bytes[CELL_AT..], 4, 2)
-            & (begins(&bytes[GROUND_AT..], 5, ground_size(n))
+    begins(&bytes[GOAL_AT..], Tag::Goal, 2)
+        & (begins(&bytes[CELL_AT..], Tag::Cell, 2)
+            & (begins(&bytes[GROUND_AT..], Tag::Ground, ground_size(n))
                 & (spare_clear(&bytes[GROUND_AT..], n)
-                    & (begins(&bytes[at_learned..], 6, 2 * n) & begins(&bytes[at_link..], 7, n)))))
+                    & (begins(&bytes[at_learned..], Tag::Learned, 2 * n)
+                        & begins(&bytes[at_link..], Tag::Link, n)))))
 }
 
 // The head that a record holds.
+#[tactic(auto, unfolding(model::specs::Record::head_of))]
 pub fn head_of(bytes: &[u8]) -> Head
     requires { ground_at ≤ length bytes.now }
     ensures { result ≡ head_of bytes.now }
@@ -67,19 +70,20 @@ pub fn read_into(bytes: &[u8], n: usize, ground: &mut [u8], learned: &mut [u16],
 }
 
 // Refusals 8 for the first two fields, 1, and 8 for the rest. The product is taken once the sides are good: it fits then.
-pub fn form_check(bytes: &[u8]) -> Verdict
+#[tactic(auto, using(crate::proofs::form::FormCases::sides_long, model::proofs::Calls::Acceptance::cells_few))]
+pub fn form_check(bytes: &[u8]) -> Result<(), Reason>
     ensures { result ≡ form_check bytes.now }
 {
     if !sides_test(bytes) {
-        return Verdict::Refused(Reason::Form);
+        return Err(Reason::Form);
     }
     let width = byte_of(&bytes[WIDTH_AT..], 0) as usize;
     let height = byte_of(&bytes[HEIGHT_AT..], 0) as usize;
     if Head::bad_sides(width, height) {
-        return Verdict::Refused(Reason::Sides);
+        return Err(Reason::Sides);
     }
     if rest_test(bytes, width * height) {
-        return Verdict::Accepted;
+        return Ok(());
     }
-    Verdict::Refused(Reason::Form)
+    Err(Reason::Form)
 }

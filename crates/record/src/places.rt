@@ -1,7 +1,28 @@
-// Where each field of a record begins, and where the record ends.
+// The fields of a record: their tags, where each begins, and where the record ends.
 ghost use Rattle.std.specs.Prelude.{◌≡◌, ◌≤◌, ◌<◌};
 ghost use Rattle.model.specs.Plot.{max_cells};
+ghost use Rattle.record.specs.Tags.{tag_byte};
 ghost use Rattle.model.specs.Record.{ground_size, learned_at, link_at, record_length};
+
+// The fields of a record in their order. Each begins with the byte of its tag.
+#[derive(Clone, Copy, Debug, PartialEq, Eq)]
+pub enum Tag {
+    Width = 1,
+    Height,
+    Goal,
+    Cell,
+    Ground,
+    Learned,
+    Link,
+}
+
+impl Tag {
+    pub fn byte(self) -> u8
+        ensures { result ≡ tag_byte self }
+    {
+        self as u8
+    }
+}
 
 // Where the first five fields begin, whatever the plot's size.
 pub const WIDTH_AT: usize = 0;
@@ -16,13 +37,12 @@ pub const GROUND_AT: usize = 18;
 
 // How many bytes the ground of n cells takes, one for eight of them.
 pub fn ground_size(n: usize) -> usize
-    requires { n < 65536 }
     ensures { result ≡ ground_size n }
 {
-    (n + 7) / 8
+    n.div_ceil(8)
 }
 
-// Where the learned field and the link field of n cells begin, and where the record ends.
+// Where the learned field and the link field of n cells begin, and where the record ends. (n ≤ max_cells is one bound of one number: no type.)
 pub fn learned_at(n: usize) -> usize
     requires { n ≤ max_cells }
     ensures { result ≡ learned_at n }

@@ -1,69 +1,53 @@
 // Save: the record of a state, written field by field into lent bytes. The writer of a field is lent the part that begins
 // where the field begins, and touches no byte after the field.
-ghost use Rattle.std.specs.Prelude.{◌≡◌, [], ◌∷◌, ◌+◌, ◌*◌, ◌-◌, ◌<◌, ◌≤◌, min, length, take};
+ghost use Rattle.std.specs.Prelude.{◌≡◌, [], ◌∷◌, ◌+◌, ◌*◌, ◌-◌, ◌<◌, ◌≤◌, min, length, take, Ok};
 ghost use Rattle.model.specs.Lists.{gathered};
 ghost use Rattle.model.specs.Lent.{fronted, lent_with};
 ghost use Rattle.model.specs.Record.{big, field, ground_size, low_bits, ground_byte, learned_bytes, record_of};
-ghost use Rattle.model.specs.Store.{after_save, save_check, saved};
-ghost use Rattle.model.specs.declared.Verdict.TheVariants.{Accepted};
-ghost use Rattle.record.specs.Written.{Packable, Headable, eight_bits, head_fields, two_put};
+ghost use Rattle.model.specs.Store.{after_save, saved_as, save_check, saved};
+ghost use Rattle.record.specs.Tags.{tag_byte};
+ghost use Rattle.record.specs.Written.{Packable, Headable, eight_bits, head_fields, pair_put};
 
-use crate::fields::exchanged;
 use crate::places::{
-    CELL_AT, GOAL_AT, GROUND_AT, HEIGHT_AT, ground_size, learned_at, link_at, record_length,
+    CELL_AT, GOAL_AT, GROUND_AT, HEIGHT_AT, Tag, ground_size, learned_at, link_at, record_length,
 };
 use checks::acceptance;
-use model::{Head, Length, Reason, Saved, Verdict};
+use model::{Head, Reason, Saved};
 
 // The front of a field: its tag, and how many bytes follow.
-fn put_front(part: &mut [u8], tag: u8, size: usize)
+fn put_front(part: &mut [u8], tag: Tag, size: usize)
     requires { (3 ≤ length part.old) × (size < 65536) }
-    ensures { part.new ≡ fronted (tag ∷ big size) part.old }
+    ensures { part.new ≡ fronted (tag_byte tag ∷ big size) part.old }
 {
-    part[0] = tag;
-    part[1] = (size / 256) as u8;
-    part[2] = (size % 256) as u8;
+    let [high, low] = (size as u16).to_be_bytes();
+    part[..3].copy_from_slice(&[tag.byte(), high, low]);
 }
 
-// A field of one byte.
-fn put_byte(part: &mut [u8], tag: u8, v: usize)
-    requires { (4 ≤ length part.old) × (v < 256) }
-    ensures { part.new ≡ fronted (field tag (v ∷ [])) part.old }
+// A field of these bytes.
+fn put_field(part: &mut [u8], tag: Tag, bytes: &[u8])
+    requires { (length bytes.now < 65536) × (3 + length bytes.now ≤ length part.old) }
+    ensures { part.new ≡ fronted (field (tag_byte tag) bytes.now) part.old }
 {
-    put_front(part, tag, 1);
-    part[3] = v as u8;
+    let size = bytes.len();
+    put_front(part, tag, size);
+    part[3..3 + size].copy_from_slice(bytes);
 }
 
 // A field of one number.
-fn put_big(part: &mut [u8], tag: u8, v: usize)
+fn put_big(part: &mut [u8], tag: Tag, v: usize)
     requires { (5 ≤ length part.old) × (v < 65536) }
-    ensures { part.new ≡ fronted (field tag (big v)) part.old }
+    ensures { part.new ≡ fronted (field (tag_byte tag) (big v)) part.old }
 {
-    put_front(part, tag, 2);
-    part[3] = (v / 256) as u8;
-    part[4] = (v % 256) as u8;
+    put_field(part, tag, &(v as u16).to_be_bytes());
 }
 
-// The links of the first n cells.
-fn put_links(part: &mut [u8], link: &[u8], n: usize)
-    requires { (n < 65536) × (n ≤ length link.now) × (3 + n ≤ length part.old) }
-    ensures { part.new ≡ fronted (field 7 (take n link.now)) part.old }
-{
-    put_front(part, 7, n);
-    let mut i = 0;
-    while i < n {
-        part[3 + i] = link[i];
-        i += 1;
-    }
-}
-
-// The two bytes of x, the low one first. Where x is made in another function this is compiled to one store.
-fn put_two(part: &mut [u8], at: usize, x: u16)
+// The two bytes of x, the high one first.
+#[tactic(auto, using(crate::proofs::save::FieldWritten::two_copied))]
+fn put_pair(part: &mut [u8], at: usize, x: u16)
     requires { at + 2 ≤ length part.old }
-    ensures { part.new ≡ two_put x at part.old }
+    ensures { part.new ≡ pair_put x at part.old }
 {
-    part[at] = (x % 256) as u8;
-    part[at + 1] = (x / 256) as u8;
+    part[at..at + 2].copy_from_slice(&x.to_be_bytes());
 }
 
 // The learned values of the first n cells, two bytes each.
@@ -71,34 +55,25 @@ fn put_learned(part: &mut [u8], learned: &[u16], n: usize)
     requires { (2 * n < 65536) × (n ≤ length learned.now) × (3 + 2 * n ≤ length part.old) }
     ensures { part.new ≡ fronted (field 6 (gathered n (learned_bytes learned.now))) part.old }
 {
-    put_front(part, 6, 2 * n);
-    let mut i = 0;
-    while i < n {
-        put_two(part, 3 + 2 * i, exchanged(learned[i]));
-        i += 1;
+    put_front(part, Tag::Learned, 2 * n);
+    for i in 0..n {
+        put_pair(part, 3 + 2 * i, learned[i]);
     }
-}
-
-// How many of n cells the byte holds that begins with cell first.
-fn cells_from(n: usize, first: usize) -> usize
-    requires { first ≤ n }
-    ensures { result ≡ min 8 (n - first) }
-{
-    let left = n - first;
-    if left < 8 { left } else { 8 }
 }
 
 // Four cells as four bits, the first the lowest. In x they lie 8 bits apart; the product has x four times, each 7 bits lower than
 // the one before, and so the four side by side from bit 24 on, where nothing else lies.
 fn four_bits(a: u8, b: u8, c: u8, d: u8) -> u64
     requires { (a ≤ 1) × (b ≤ 1) × (c ≤ 1) × (d ≤ 1) }
-    ensures { (result ≡ a + 2 * b + 4 * c + 8 * d) × (result < 16) }
+    ensures bits { result ≡ a + 2 * b + 4 * c + 8 * d }
+    ensures small { result < 16 }
 {
-    let x = a as u64 + b as u64 * 256 + c as u64 * 65536 + d as u64 * 16777216;
+    let x = u32::from_le_bytes([a, b, c, d]) as u64;
     x * 0x0102_0408 / 16777216 % 16
 }
 
 // A whole byte of the ground: the eight cells from c on.
+#[tactic(auto, unfolding(crate::specs::Written::eight_bits))]
 fn eight_bits(ground: &[u8], c: usize) -> u8
     requires { Packable (c + 8) ground.now }
     ensures { result ≡ eight_bits ground.now c }
@@ -115,14 +90,12 @@ fn low_bits(ground: &[u8], n: usize, j: usize) -> u8
     ensures { result ≡ low_bits n ground.now j 8 }
 {
     let first = 8 * j;
-    let count = cells_from(n, first);
+    let count = (n - first).min(8);
     let mut byte = 0;
     let mut bit = 1;
-    let mut m = 0;
-    while m < count {
+    for m in 0..count {
         byte += ground[first + m] as usize * bit;
         bit += bit;
-        m += 1;
     }
     byte as u8
 }
@@ -134,32 +107,31 @@ fn put_ground(part: &mut [u8], ground: &[u8], n: usize)
 {
     let size = ground_size(n);
     let whole = n / 8;
-    put_front(part, 5, size);
-    let mut j = 0;
-    while j < whole {
+    put_front(part, Tag::Ground, size);
+    for j in 0..whole {
         part[3 + j] = eight_bits(ground, 8 * j);
-        j += 1;
     }
-    if size <= j {
-        return;
+    if whole < size {
+        part[3 + whole] = low_bits(ground, n, whole);
     }
-    part[3 + j] = low_bits(ground, n, j);
 }
 
 // The head's four fields.
+#[tactic(auto, using(crate::proofs::save::SaveCases::sides_low, model::proofs::Calls::Acceptance::cells_few))]
 fn put_head(head: Head, buffer: &mut [u8])
     requires { Headable head buffer.old }
     ensures { buffer.new ≡ fronted (head_fields head) buffer.old }
 {
-    put_byte(buffer, 1, head.width);
-    put_byte(&mut buffer[HEIGHT_AT..], 2, head.height);
-    put_big(&mut buffer[GOAL_AT..], 3, head.goal);
-    put_big(&mut buffer[CELL_AT..], 4, head.cell);
+    put_field(buffer, Tag::Width, &[head.width as u8]);
+    put_field(&mut buffer[HEIGHT_AT..], Tag::Height, &[head.height as u8]);
+    put_big(&mut buffer[GOAL_AT..], Tag::Goal, head.goal);
+    put_big(&mut buffer[CELL_AT..], Tag::Cell, head.cell);
 }
 
 // The record of accepted data, into a buffer with room for it. It is save's core, and no entry point.
+#[tactic(auto, using(crate::proofs::save::SaveCases::save_leaves))]
 pub fn write_record(head: Head, ground: &[u8], learned: &[u16], link: &[u8], buffer: &mut [u8])
-    requires { save_check head (lent_with ground.now learned.now link.now) buffer.old ≡ Accepted }
+    requires { save_check head (lent_with ground.now learned.now link.now) buffer.old ≡ Ok tt }
     ensures { buffer.new ≡ fronted (record_of head (lent_with ground.now learned.now link.now))
         buffer.old }
 {
@@ -169,39 +141,51 @@ pub fn write_record(head: Head, ground: &[u8], learned: &[u16], link: &[u8], buf
     put_head(head, buffer);
     put_ground(&mut buffer[GROUND_AT..], ground, n);
     put_learned(&mut buffer[at_learned..], learned, n);
-    put_links(&mut buffer[at_link..], link, n);
+    put_field(&mut buffer[at_link..], Tag::Link, &link[..n]);
 }
 
 // Whether save is refused: the buffer is asked after the data.
-fn save_check(head: Head, ground: &[u8], learned: &[u16], link: &[u8], buffer: &[u8]) -> Verdict
+#[tactic(auto, unfolding(model::specs::Store::save_check))]
+fn save_check(
+    head: Head,
+    ground: &[u8],
+    learned: &[u16],
+    link: &[u8],
+    buffer: &[u8],
+) -> Result<(), Reason>
     ensures { result ≡ save_check head (lent_with ground.now learned.now link.now) buffer.now }
 {
-    let verdict = acceptance(head, ground, learned, link);
-    if let Verdict::Refused(why) = verdict {
-        return Verdict::Refused(why);
-    }
+    acceptance(head, ground, learned, link)?;
     if buffer.len() < record_length(head.width * head.height) {
-        return Verdict::Refused(Reason::Short);
+        return Err(Reason::Short);
     }
-    Verdict::Accepted
+    Ok(())
 }
 
-// Save: the record's length for an answer. A refusal writes nothing.
+// Writes the record, and answers its length. A refusal writes nothing.
+#[tactic(auto, using(crate::proofs::save::SaveCases::save_few))]
+fn save_record(
+    head: Head,
+    ground: &[u8],
+    learned: &[u16],
+    link: &[u8],
+    buffer: &mut [u8],
+) -> Result<usize, Reason>
+    ensures { after_save (saved_as head result) buffer.new
+        ≡ saved head (lent_with ground.now learned.now link.now) buffer.old }
+{
+    save_check(head, ground, learned, link, &buffer[..])?;
+    write_record(head, ground, learned, link, buffer);
+    Ok(record_length(head.width * head.height))
+}
+
+// Save: the record's length for an answer.
 pub fn save(head: Head, ground: &[u8], learned: &[u16], link: &[u8], buffer: &mut [u8]) -> Saved
     ensures { after_save result buffer.new ≡ saved head (lent_with ground.now learned.now link.now)
         buffer.old }
 {
-    let verdict = save_check(head, ground, learned, link, &buffer[..]);
-    if let Verdict::Refused(why) = verdict {
-        return Saved {
-            head: head,
-            length: Length::Refused(why),
-        };
-    }
-    write_record(head, ground, learned, link, buffer);
-    let length = record_length(head.width * head.height);
     Saved {
-        head: head,
-        length: Length::Bytes(length),
+        head,
+        length: save_record(head, ground, learned, link, buffer),
     }
 }

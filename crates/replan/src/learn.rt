@@ -1,64 +1,72 @@
 // What plan does after a stop: the learned values of the expanded cells rise, and links are set back along the trail.
-ghost use Rattle.std.specs.Prelude.{◌≡◌, false, ◌-◌, ◌<◌, ◌≤◌, length};
-ghost use Rattle.model.specs.Plot.{bad_sides, cells};
+ghost use Rattle.std.specs.Prelude.{◌≡◌, ℕ, ◌-◌, ◌<◌, ◌≤◌, List, length, get_or};
 ghost use Rattle.model.specs.Plan.{raised, relinked};
 ghost use Rattle.search.specs.Listed.{Listed};
 
-use grid::{ahead, opposite};
+use grid::opposite;
+use grid::plot::Plot;
+use search::Scratch;
 
 // What is left of a route of this many steps at a cell of cost g.
 fn left_at(steps: usize, g: u16) -> u16
     requires { steps < 65536 }
     ensures { result ≡ steps - g }
 {
-    let gone = g as usize;
-    if gone <= steps {
-        return (steps - gone) as u16;
-    }
-    0
+    steps.saturating_sub(g as usize) as u16
 }
 
-// The learned values after a search that found a route of this many steps and expanded the first `count` cells of the
-// list: only these are written. (Marks say which cells those are, and are not read.)
-pub fn raise(
-    learned: &mut [u16],
-    mark: &[u8],
-    cost: &[u16],
-    list: &[u16],
-    n: usize,
-    count: usize,
-    steps: usize,
-)
-    requires { (n ≤ length learned.old) × (n ≤ length cost.now) × (count ≤ length list.now) × (steps < 65536)
-        × Listed n mark.now count list.now }
-    ensures { learned.new ≡ raised n steps learned.old mark.now cost.now }
+// The learned values after a search that found a route of this many steps and expanded the cells of the list: only these are
+// written. (Marks say which cells those are, and nobody has to read them.)
+pub fn raise(learned: &mut [u16], cost: &[u16], list: &[u16], steps: usize)
+    requires small { steps < 65536 }
+    requires listed { (n : ℕ) × (mark : List ℕ) × (n ≤ length learned.old) × (n ≤ length cost.now) × Listed n mark (length list.now) list.now }
+    ensures { (n : ℕ) (mark : List ℕ) → n ≤ length learned.old → Listed n mark (length list.now) list.now
+        → learned.new ≡ raised n steps learned.old mark cost.now }
 {
-    let mut i = 0;
-    while i < count {
-        let x = list[i] as usize;
+    for x in list {
+        let x = *x as usize;
         learned[x] = left_at(steps, cost[x]);
-        i += 1;
     }
 }
 
 // Links along the trail, back from c, whose cost is v.
-pub fn relink(width: usize, height: usize, trail: &[u8], link: &mut [u8], v: usize, c: usize)
-    requires { (bad_sides width height ≡ false) × (c < cells width height) × (cells width height ≤ length trail.now)
-        × (cells width height ≤ length link.old) }
-    ensures { link.new ≡ relinked width height trail.now v c link.old }
+pub fn relink(plot: Plot, trail: &[u8], link: &mut [u8], v: usize, c: usize)
+    requires { (c < plot.cells) × (plot.cells ≤ length trail.now) × (plot.cells ≤ length link.old) }
+    ensures { link.new ≡ relinked plot.width plot.height trail.now v c link.old }
 {
-    let n = width * height;
     let mut at = c;
-    let mut left = v;
-    while left != 0 {
+    for _ in 0..v {
         let d = trail[at];
         let back = opposite(d);
-        let b = ahead(width, height, n, at, at % width, back);
-        if n <= b {
+        let Some(b) = plot.ahead(at, at % plot.width, back) else {
             return;
-        }
+        };
         link[b] = d;
         at = b;
-        left -= 1;
     }
+}
+
+// Both, after a search that stopped at c.
+pub(crate) fn improve(
+    plot: Plot,
+    learned: &mut [u16],
+    link: &mut [u8],
+    scratch: &Scratch,
+    list: &[u16],
+    steps: usize,
+    c: usize,
+)
+    requires small { steps < 65536 }
+    requires listed { (n : ℕ) × (mark : List ℕ) × (n ≤ length learned.old) × (n ≤ length scratch.now.cost.now)
+        × Listed n mark (length list.now) list.now }
+    requires sized { (c < plot.cells) × (plot.cells ≤ length scratch.now.cost.now) × (plot.cells ≤ length scratch.now.trail.now)
+        × (plot.cells ≤ length link.old) }
+    ensures learned { (n : ℕ) (mark : List ℕ) → n ≤ length learned.old → Listed n mark (length list.now) list.now
+        → learned.new ≡ raised n steps learned.old mark scratch.now.cost.now }
+    ensures link { link.new ≡ relinked plot.width plot.height scratch.now.trail.now (get_or scratch.now.cost.now c 0) c link.old }
+{
+    let cost = &*scratch.cost;
+    let trail = &*scratch.trail;
+    raise(learned, cost, list, steps);
+    relink(plot, trail, link, cost[c] as usize, c);
 }

@@ -1,6 +1,6 @@
 -- For a host that keeps its buffers itself: each call over them, with the head in a lent array, answering one number.
-use Rattle.std.specs.Prelude.{ℕ, cond, List, length}
-use Rattle.model.specs.Numbers.{reason_number, outcome_verdict, step_verdict, refusal, changed_answer, plan_answer, move_answer, save_answer}
+use Rattle.std.specs.Prelude.{ℕ, cond, List, length, Ok, Err}
+use Rattle.model.specs.Numbers.{reason_number, outcome_verdict, step_verdict, refusal, changed_answer, plan_answer, move_answer, given_number}
 use Rattle.model.specs.Lent.{Lent, Scratch, After}
 use Rattle.model.specs.Refusals.{too_short}
 use Rattle.model.specs.Layout.{laid_out}
@@ -10,8 +10,7 @@ use Rattle.model.specs.Move.{moved}
 use Rattle.model.specs.Listing.{list_check, listed, list_question}
 use Rattle.model.specs.Store.{saved, loaded}
 use Rattle.model.specs.declared.Reason.TheVariants.{Short}
-use Rattle.model.specs.declared.Verdict.{Verdict}
-use Rattle.model.specs.declared.Verdict.TheVariants.{Accepted, Refused}
+use Rattle.model.specs.Verdict.{Verdict}
 use Rattle.model.specs.declared.Changed.{Changed}
 use Rattle.model.specs.declared.Planned.{Planned}
 use Rattle.model.specs.declared.Moved.{Moved}
@@ -88,8 +87,8 @@ moved_host head p =
 
 -- list answers how many cells it wrote
 abbrev pub list_answer : Verdict → (count : ℕ) → ℕ
-list_answer Accepted count = count
-list_answer (Refused why) count = refusal why
+list_answer (Ok _) count = count
+list_answer (Err why) count = refusal why
 
 unfoldable pub listed_host : (head : List ℕ) → Lent → (buffer : List ℕ) → AfterHostFill
 listed_host head p buffer =
@@ -104,4 +103,4 @@ question_host head p buffer = unless_short head (reason_number Short) (list_ques
 unfoldable pub saved_host : (head : List ℕ) → Lent → (bytes : List ℕ) → AfterHostFill
 saved_host head p bytes =
     let r = saved (head_in head) p bytes in
-    unless_short head (after_host_fill (refusal Short) bytes) (after_host_fill (save_answer r.answer.length) r.buffer)
+    unless_short head (after_host_fill (refusal Short) bytes) (after_host_fill (given_number r.answer.length) r.buffer)

@@ -4,7 +4,7 @@ use Rattle.model.specs.Lent.{fronted}
 use Rattle.model.specs.Head.{head_at}
 use Rattle.model.specs.Controller.{rewritten}
 use Rattle.model.specs.declared.Head.{Head}
-use Rattle.model.specs.declared.Verdict.{Verdict}
+use Rattle.model.specs.Verdict.{Verdict}
 use Rattle.model.specs.declared.Changed.{Changed}
 
 abbrev pub head_size : ℕ

@@ -1,15 +1,16 @@
 // The calls over buffers that a host keeps itself, with the head in an array of five entries (specs/Buffers). Each is the call
-// of its name, with the head read before and written after; a refusal writes nothing, not there either.
+// of its name, with the head read before and written after; a refusal writes nothing, not there either. (The test of the head array
+// stands in each: they are C's entry points, and each answers for itself.)
 ghost use Rattle.std.specs.Prelude.{◌≡◌};
 ghost use Rattle.model.specs.Lent.{lent_with, scratch_with};
 ghost use Rattle.salenduro.specs.Buffers.{after_host, after_host_plan, after_host_fill, laid_out_host, reported_host, planned_host, moved_host};
 ghost use Rattle.salenduro.specs.Buffers.{listed_host, question_host, saved_host, loaded_host};
 
 use crate::heads::{CELL_AT, COUNT_AT, HEAD_SIZE, head_in, set_entry, set_head};
-use crate::numbers::{REFUSED, changed_answer, move_answer, plan_answer, refusal, save_answer};
+use crate::numbers::{changed_answer, given_number, move_answer, plan_answer, refusal};
 use calls::advance::advance;
 use calls::layout::layout;
-use calls::list::{fill_route, list_question};
+use calls::list::{list_count, list_question};
 use calls::plan::plan;
 use calls::report::report;
 use model::Reason;
@@ -35,8 +36,7 @@ pub extern "C" fn salenduro_buffers_layout(
     }
     let changed = layout(width, height, start, goal, ground, learned, link);
     set_head(head, changed);
-    let verdict = changed.verdict;
-    changed_answer(verdict)
+    changed_answer(changed.verdict)
 }
 
 #[unsafe(no_mangle)]
@@ -54,8 +54,7 @@ pub extern "C" fn salenduro_buffers_report(
         return refusal(Reason::Short);
     }
     let changed = report(head_in(head), ground, learned, link, cell);
-    let verdict = changed.verdict;
-    changed_answer(verdict)
+    changed_answer(changed.verdict)
 }
 
 #[unsafe(no_mangle)]
@@ -97,9 +96,8 @@ pub extern "C" fn salenduro_buffers_move(
     }
     let moved = advance(head_in(&head[..]), ground, learned, link);
     let next = moved.head;
-    let step = moved.step;
-    set_entry(head, CELL_AT, step.verdict(), next.cell);
-    move_answer(next.cell, step)
+    set_entry(head, CELL_AT, moved.verdict(), next.cell);
+    move_answer(next.cell, moved.step)
 }
 
 #[unsafe(no_mangle)]
@@ -113,12 +111,12 @@ pub extern "C" fn salenduro_buffers_question(
     ensures { result ≡ question_host head.now (lent_with ground.now learned.now link.now) list.now }
 {
     if head.len() < HEAD_SIZE {
-        return 2;
+        return Reason::Short.number() as u32;
     }
     list_question(head_in(head), ground, learned, link, list) as u32
 }
 
-// The question decides: list would test the data again.
+// The number of cells that were written.
 #[unsafe(no_mangle)]
 pub extern "C" fn salenduro_buffers_list(
     head: &[usize],
@@ -130,11 +128,10 @@ pub extern "C" fn salenduro_buffers_list(
     ensures { after_host_fill result list.new
         ≡ listed_host head.now (lent_with ground.now learned.now link.now) list.old }
 {
-    let number = salenduro_buffers_question(head, ground, learned, link, &list[..]);
-    if number != 0 {
-        return REFUSED + number;
+    if head.len() < HEAD_SIZE {
+        return refusal(Reason::Short);
     }
-    fill_route(head_in(head), ground, learned, link, list) as u32
+    given_number(list_count(head_in(head), ground, learned, link, list))
 }
 
 #[unsafe(no_mangle)]
@@ -151,9 +148,7 @@ pub extern "C" fn salenduro_buffers_save(
     if head.len() < HEAD_SIZE {
         return refusal(Reason::Short);
     }
-    let saved = save(head_in(head), ground, learned, link, bytes);
-    let length = saved.length;
-    save_answer(length)
+    given_number(save(head_in(head), ground, learned, link, bytes).length)
 }
 
 #[unsafe(no_mangle)]

@@ -2,7 +2,7 @@
 ghost use Rattle.std.specs.Prelude.{◌≡◌, ◌≤◌, ◌<◌, length};
 ghost use Rattle.salenduro.specs.Heads.{head_size, head_in, head_set, entry_set};
 
-use model::{Changed, Head, Verdict};
+use model::{Changed, Head, Reason};
 
 // Its entries, and the places of those that are set alone.
 pub const HEAD_SIZE: usize = 5;
@@ -23,8 +23,7 @@ pub fn set_head(head: &mut [usize], changed: Changed)
     requires { head_size ≤ length head.old }
     ensures { head.new ≡ head_set changed head.old }
 {
-    let done = changed.verdict;
-    if let Verdict::Refused(_) = done {
+    if changed.verdict.is_err() {
         return;
     }
     let next = changed.head;
@@ -36,12 +35,11 @@ pub fn set_head(head: &mut [usize], changed: Changed)
 }
 
 // Plan and move, once accepted, set one.
-pub fn set_entry(head: &mut [usize], at: usize, verdict: Verdict, v: usize)
+pub fn set_entry(head: &mut [usize], at: usize, verdict: Result<(), Reason>, v: usize)
     requires { at < length head.old }
     ensures { head.new ≡ entry_set verdict at v head.old }
 {
-    if let Verdict::Refused(_) = verdict {
-        return;
+    if verdict.is_ok() {
+        head[at] = v;
     }
-    head[at] = v;
 }

@@ -1,9 +1,9 @@
-// Answers as document 01's numbers, a refusal n being 70,000 + n, and as verdicts. Accepted lengths and cells are far below 2^32.
-// No entry points.
+// Answers as document 01's numbers, a refusal n being 70,000 + n. Accepted lengths and cells are far below 2^32.
+// No entry points. (Numbers and no enums: they are what C is answered.)
 ghost use Rattle.std.specs.Prelude.{◌≡◌, ◌<◌};
-ghost use Rattle.model.specs.Numbers.{refusal, changed_answer, plan_answer, move_answer, save_answer};
+ghost use Rattle.model.specs.Numbers.{refusal, changed_answer, plan_answer, move_answer, given_number};
 
-use model::{Length, Outcome, Reason, Step, Verdict};
+use model::{Outcome, Reason, Step};
 
 // A refusal's number comes on top of this.
 pub const REFUSED: u32 = 70000;
@@ -12,6 +12,17 @@ pub fn refusal(why: Reason) -> u32
     ensures { result ≡ refusal why }
 {
     REFUSED + why.number() as u32
+}
+
+// What a call gives, or the refusal.
+pub fn given_number(given: Result<usize, Reason>) -> u32
+    requires { given_number given < 4294967296 }
+    ensures { result ≡ given_number given }
+{
+    match given {
+        Ok(n) => n as u32,
+        Err(why) => refusal(why),
+    }
 }
 
 pub fn plan_answer(outcome: Outcome) -> u32
@@ -26,32 +37,15 @@ pub fn plan_answer(outcome: Outcome) -> u32
     }
 }
 
-pub fn changed_answer(verdict: Verdict) -> u32
+pub fn changed_answer(verdict: Result<(), Reason>) -> u32
     ensures { result ≡ changed_answer verdict }
 {
-    match verdict {
-        Verdict::Accepted => 0,
-        Verdict::Refused(why) => refusal(why),
-    }
+    given_number(verdict.map(|()| 0))
 }
 
-pub fn move_answer(cell: usize, step: Step) -> u32
+pub fn move_answer(cell: usize, step: Result<Step, Reason>) -> u32
     requires { move_answer cell step < 4294967296 }
     ensures { result ≡ move_answer cell step }
 {
-    match step {
-        Step::Moved => cell as u32,
-        Step::Arrived => cell as u32,
-        Step::Refused(why) => refusal(why),
-    }
-}
-
-pub fn save_answer(length: Length) -> u32
-    requires { save_answer length < 4294967296 }
-    ensures { result ≡ save_answer length }
-{
-    match length {
-        Length::Bytes(n) => n as u32,
-        Length::Refused(why) => refusal(why),
-    }
+    given_number(step.map(|_| cell))
 }

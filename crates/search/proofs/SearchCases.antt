@@ -4,6 +4,7 @@ use mathlib.Core.Path.{◌≡◌, sym, ◌∙◌}
 use mathlib.Core.List.{List}
 use Prim.Native.Nat.{ℕ}
 use native.Mathlib.Omega.{arith}
+use Rattle.std.specs.Prelude.{Option}
 use Rattle.model.specs.Lists.{filled, each}
 use Rattle.model.specs.Lent.{Lent, Scratch}
 use Rattle.model.specs.Search.{begun}
@@ -45,13 +46,15 @@ module _ {head : Head} {p : Lent} {n : ℕ} {s : Scratch} {heap place gone list 
   unfolding searched
   searched_alike t e = rw (← a.count, e, begun_again can_begin)
 
-  pub hunted : (t : Scratch) (heap' place' : List ℕ) (at count : ℕ) (u : Scratch) (list' : List ℕ)
+  pub hunted : (t : Scratch) (heap' place' : List ℕ) (at : Option ℕ) (count : ℕ) (u : Scratch) (list' : List ℕ)
       → Did n p.learned (begun n head.cell s) t 1 heap' place'
       → Hunted head p n t at count u list' → Hunted head p n s at count u list'
   hunted t heap' place' at count u list' d r = record {
     ends = sym (searched_alike t d.is) ∙ r.ends;
     counts = r.counts;
     listed = r.listed;
+    sized = r.sized;
+    lists = r.lists;
     within = r.within;
     near = r.near;
   }

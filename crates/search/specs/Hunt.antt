@@ -1,5 +1,5 @@
 -- A hunt: the search from its start to its end, over the queue.
-use Rattle.std.specs.Prelude.{◌≡◌, true, false, List, ℕ, ◌≤◌, eqb, get_or}
+use Rattle.std.specs.Prelude.{◌≡◌, List, ℕ, Option, Some, None, IfSome, ◌≤◌, ◌<◌, length, get_or}
 use Rattle.model.specs.Head.{cells_of}
 use Rattle.model.specs.Lent.{Lent, Scratch}
 use Rattle.model.specs.Search.{begun, Ended, stopped_at, nothing_waits}
@@ -28,14 +28,17 @@ pub record Searchable (head : Head) (p : Lent) (n : ℕ) (s : Scratch) (heap pla
   pub sized : Sized n s
   pub space : Workspace n heap place gone list
 
--- a search that ended at cell c with this scratch, or where c is n, with nothing waiting
-abbrev pub end_at : (n c : ℕ) → Scratch → Ended
-end_at n c s = elim (eqb c n) [ true ↦ nothing_waits s | false ↦ stopped_at c s ]
+-- a search that ended at this cell with this scratch, or at none, with nothing waiting
+abbrev pub end_at : Option ℕ → Scratch → Ended
+end_at (Some c) s = stopped_at c s
+end_at None s = nothing_waits s
 
 -- it ended as document 01's search does, and the cells that it expanded are listed; the stop is on the plot, and its cost small
-pub record Hunted (head : Head) (p : Lent) (n : ℕ) (s : Scratch) (at count : ℕ) (s' : Scratch) (list : List ℕ) : Type 0 where
-  pub ends : searched head p s ≡ end_at n at s'
+pub record Hunted (head : Head) (p : Lent) (n : ℕ) (s : Scratch) (at : Option ℕ) (count : ℕ) (s' : Scratch) (list : List ℕ) : Type 0 where
+  pub ends : searched head p s ≡ end_at at s'
   pub counts : expanded_count n s'.mark ≡ count
   pub listed : Listed n s'.mark count list
-  pub within : at ≤ n
-  pub near : (at ≡ n → ⊥) → get_or s'.cost at 0 ≤ n
+  pub sized : Sized n s'
+  pub lists : n ≤ length list
+  pub within : IfSome at (λ c. c < n)
+  pub near : IfSome at (λ c. get_or s'.cost c 0 ≤ n)

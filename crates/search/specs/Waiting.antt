@@ -4,7 +4,7 @@ use Rattle.model.specs.Plot.{free}
 use Rattle.model.specs.Lent.{Scratch}
 use Rattle.model.specs.Fit.{Sized}
 use Rattle.model.specs.Search.{waits, reached, looked}
-use Rattle.queue.specs.Queue.{key_of, none, Queue, Keys}
+use Rattle.queue.specs.Queue.{key_of, none, IsQueue, Keys}
 
 -- the key of a waiting cell, and none where it does not wait
 unfoldable pub key_for : (learned : List ℕ) → Scratch → ℕ → ℕ
@@ -24,7 +24,7 @@ pub record Queued (n : ℕ) (learned : List ℕ) (s : Scratch) (len : ℕ) (heap
   pub some : 0 < n
   pub learneds : n ≤ length learned
   pub sized : Sized n s
-  pub queue : Queue n len heap place
+  pub queue : IsQueue n len heap place
   pub keys : Keys (key_for learned s) n len heap place
 
 -- scratch is as wanted, and goes with the queue again

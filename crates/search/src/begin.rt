@@ -1,33 +1,33 @@
 // How a search begins: every cell is unseen but the cart's own, which waits alone.
-ghost use Rattle.model.specs.Lent.{scratch_with};
+ghost use Rattle.std.specs.Prelude.{◌≡◌};
 ghost use Rattle.model.specs.Search.{begun};
-ghost use Rattle.search.specs.Waiting.{Did};
+ghost use Rattle.queue.specs.Same.{SameQueue};
+ghost use Rattle.search.specs.LentLists.{scratch_of, SameScratch};
+ghost use Rattle.search.specs.Agreeing.{Became};
 ghost use Rattle.search.specs.Begin.{CanBegin};
 
-use grid::fills::{clear, unsee};
+use crate::lent::Scratch;
+use queue::{Queue, key_of};
 
-// Scratch as a search begins, and a queue of the cart's cell.
-pub fn begin(
-    n: usize,
-    cell: usize,
-    learned: &[u16],
-    mark: &mut [u8],
-    cost: &mut [u16],
-    trail: &mut [u8],
-    heap: &mut [u64],
-    place: &mut [u16],
-)
-    requires { CanBegin n cell learned.now (scratch_with mark.old cost.old trail.old) heap.old place.old }
-    ensures { Did n learned.now
-        (begun n cell (scratch_with mark.old cost.old trail.old))
-        (scratch_with mark.new cost.new trail.new) 1 heap.new place.new }
+// Scratch as a search begins, and a queue of the cart's cell. (Each list goes by a name of its own: where a part of it is lent straight
+// out of the struct, as `scratch.mark[..n]`, the check forgets what the list holds.)
+pub fn begin(cell: usize, learned: &[u16], scratch: &mut Scratch, queue: &mut Queue)
+    requires { CanBegin queue.old.cells cell learned.now (scratch_of scratch.old) queue.old.heap.now queue.old.place.now }
+    ensures begun { Became learned.now (begun queue.old.cells cell (scratch_of scratch.old)) scratch.new queue.new }
+    ensures waiting { queue.new.waiting ≡ 1 }
+    ensures same { SameScratch scratch.old scratch.new × SameQueue queue.old queue.new }
 {
-    clear(mark, n);
-    unsee(cost, n);
-    clear(trail, n);
+    let n = queue.cells;
+    let mark = &mut *scratch.mark;
+    let cost = &mut *scratch.cost;
+    let trail = &mut *scratch.trail;
+    mark[..n].fill(0);
+    cost[..n].fill(u16::MAX);
+    trail[..n].fill(0);
     mark[cell] = 1;
     cost[cell] = 0;
-    heap[0] = 0;
-    let k = queue::key_of(0, learned[cell], cell as u16);
-    queue::push(heap, place, n, 0, k);
+    queue.heap[0] = 0;
+    queue.waiting = 0;
+    let k = key_of(0, learned[cell], cell as u16);
+    queue.push(k);
 }

@@ -1,121 +1,99 @@
 // An expansion: the cell goes out of the queue and looks at its neighbours, which come in or are lowered there.
-ghost use Rattle.std.specs.Prelude.{◌≡◌, true, ◌%◌, ◌<◌, ◌≤◌, length, get_or};
-ghost use Rattle.model.specs.Plot.{cells, free};
-ghost use Rattle.model.specs.Lent.{scratch_with};
+ghost use Rattle.std.specs.Prelude.{◌≡◌, true, false, ◌<◌, ◌≤◌, length, get_or};
+ghost use Rattle.model.specs.Plot.{free};
 ghost use Rattle.model.specs.Search.{reached, expanded};
-ghost use Rattle.queue.specs.Queue.{Absent, Waits, Lowered};
-ghost use Rattle.search.specs.Waiting.{looked_at, Queued, Did};
+ghost use Rattle.queue.specs.Queue.{cell, Absent, Waits, Lowered};
+ghost use Rattle.queue.specs.Same.{SameQueue};
+ghost use Rattle.search.specs.LentLists.{scratch_of, SameScratch};
+ghost use Rattle.search.specs.Waiting.{looked_at};
+ghost use Rattle.search.specs.Agreeing.{Agree, Became};
 
-use grid::ahead;
+use crate::lent::Scratch;
+use grid::plot::Plot;
+use queue::{Queue, key_of};
 
-// The key of a cell comes in, or is lowered where the cell waits; how many wait then.
-fn put(heap: &mut [u64], place: &mut [u16], n: usize, len: usize, mark: u8, v: u64) -> usize
-    requires { (mark ≡ 1 → Waits n len heap.old place.old v) × ((mark ≡ 1 → ⊥) → Absent n len heap.old place.old v) }
-    ensures { Lowered n len heap.old place.old v result heap.new place.new }
+// (That queue and scratch agree is a `requires` and no ghost field: a struct of references owes one at each write, and
+// between the writes of `reach` they do not agree.)
+
+// The key of a cell comes in, or is lowered where the cell waits.
+fn put(queue: &mut Queue, waits: bool, v: u64)
+    requires there { waits ≡ true → Waits queue.old.cells queue.old.waiting queue.old.heap.now queue.old.place.now v }
+    requires away { waits ≡ false → Absent queue.old.cells queue.old.waiting queue.old.heap.now queue.old.place.now v }
+    ensures keys { Lowered queue.old.cells queue.old.waiting queue.old.heap.now queue.old.place.now v
+        queue.new.waiting queue.new.heap.now queue.new.place.now }
+    ensures same { SameQueue queue.old queue.new }
 {
-    if mark == 1 {
-        queue::lower(heap, place, n, len, v);
-        return len;
+    if waits {
+        queue.lower(v);
+        return;
     }
-    queue::push(heap, place, n, len, v);
-    len + 1
+    queue.push(v);
 }
 
 // Cell y is reached at cost g by direction d, and waits.
-fn reach(
-    learned: &[u16],
-    mark: &mut [u8],
-    cost: &mut [u16],
-    trail: &mut [u8],
-    heap: &mut [u64],
-    place: &mut [u16],
-    n: usize,
-    len: usize,
-    y: usize,
-    g: u16,
-    d: u8,
-) -> usize
-    requires { (y < n) × (g ≤ get_or cost.old y 0) × Queued n learned.now (scratch_with mark.old cost.old trail.old) len heap.old place.old }
-    ensures { Did n learned.now
-        (reached y g d (scratch_with mark.old cost.old trail.old))
-        (scratch_with mark.new cost.new trail.new) result heap.new place.new }
+fn reach(learned: &[u16], scratch: &mut Scratch, queue: &mut Queue, y: usize, g: u16, d: u8)
+    requires inside { y < queue.old.cells }
+    requires cheaper { (g ≤ get_or scratch.old.cost.now y 0) × (get_or scratch.old.cost.now y 0 < 65536) }
+    requires agree { Agree learned.now scratch.old queue.old }
+    ensures reached { Became learned.now (reached y g d (scratch_of scratch.old)) scratch.new queue.new }
+    ensures same { SameScratch scratch.old scratch.new × SameQueue queue.old queue.new }
 {
-    let k = queue::key_of(g, learned[y], y as u16);
-    let was = mark[y];
-    mark[y] = 1;
-    cost[y] = g;
-    trail[y] = d;
-    put(heap, place, n, len, was, k)
+    let k = key_of(g, learned[y], y as u16);
+    let waits = scratch.mark[y] == 1;
+    scratch.mark[y] = 1;
+    scratch.cost[y] = g;
+    scratch.trail[y] = d;
+    put(queue, waits, k);
 }
 
 // A look at cell y, reached at cost g by direction d.
 fn look_at(
     ground: &[u8],
     learned: &[u16],
-    mark: &mut [u8],
-    cost: &mut [u16],
-    trail: &mut [u8],
-    heap: &mut [u64],
-    place: &mut [u16],
-    n: usize,
-    len: usize,
+    scratch: &mut Scratch,
+    queue: &mut Queue,
     y: usize,
     g: u32,
     d: u8,
-) -> usize
-    requires { (n ≤ length ground.now) × Queued n learned.now (scratch_with mark.old cost.old trail.old) len heap.old place.old }
-    ensures { Did n learned.now
-        (looked_at ground.now n y g d (scratch_with mark.old cost.old trail.old))
-        (scratch_with mark.new cost.new trail.new) result heap.new place.new }
+)
+    requires inside { (y < queue.old.cells) × (queue.old.cells ≤ length ground.now) }
+    requires agree { Agree learned.now scratch.old queue.old }
+    ensures looked { Became learned.now (looked_at ground.now queue.old.cells y g d (scratch_of scratch.old)) scratch.new queue.new }
+    ensures same { SameScratch scratch.old scratch.new × SameQueue queue.old queue.new }
 {
-    if n <= y {
-        return len;
-    }
     if ground[y] != 0 {
-        return len;
+        return;
     }
-    if cost[y] as u32 <= g {
-        return len;
+    let cost = scratch.cost[y];
+    if cost as u32 <= g {
+        return;
     }
-    reach(
-        learned, mark, cost, trail, heap, place, n, len, y, g as u16, d,
-    )
+    reach(learned, scratch, queue, y, g as u16, d);
 }
 
-// Cell x, the first of the queue, is expanded; how many wait then.
+// Cell x, the first of the queue, is expanded.
 pub fn expand(
-    width: usize,
-    height: usize,
+    plot: Plot,
     ground: &[u8],
     learned: &[u16],
-    mark: &mut [u8],
-    cost: &mut [u16],
-    trail: &mut [u8],
-    heap: &mut [u64],
-    place: &mut [u16],
-    n: usize,
-    len: usize,
+    scratch: &mut Scratch,
+    queue: &mut Queue,
     x: usize,
-) -> usize
-    requires n_value { (n ≡ cells width height) × (width ≤ n) × (0 < width) × (1 ≤ len) × (x ≡ get_or heap.old 1 0 % 65536) × (n ≤ length ground.now)
-        × (free ground.now x ≡ true) }
-    requires queued { Queued n learned.now (scratch_with mark.old cost.old trail.old) len heap.old place.old }
-    ensures { Did n learned.now
-        (expanded width height ground.now x (scratch_with mark.old cost.old trail.old))
-        (scratch_with mark.new cost.new trail.new) result heap.new place.new }
+)
+    requires sides { queue.old.cells ≡ plot.cells }
+    requires first { (1 ≤ queue.old.waiting) × (x ≡ cell queue.old.heap.now 1) }
+    requires stands { (plot.cells ≤ length ground.now) × (free ground.now x ≡ true) }
+    requires agree { Agree learned.now scratch.old queue.old }
+    ensures expanded { Became learned.now (expanded plot.width plot.height ground.now x (scratch_of scratch.old)) scratch.new queue.new }
+    ensures same { SameScratch scratch.old scratch.new × SameQueue queue.old queue.new }
 {
-    let g = cost[x] as u32 + 1;
-    let col = x % width;
-    mark[x] = 2;
-    queue::pop(heap, place, n, len);
-    let mut waiting = len - 1;
-    let mut d: u8 = 0;
-    while d < 4 {
-        d += 1;
-        let y = ahead(width, height, n, x, col, d);
-        waiting = look_at(
-            ground, learned, mark, cost, trail, heap, place, n, waiting, y, g, d,
-        );
+    let g = scratch.cost[x] as u32 + 1;
+    let column = x % plot.width;
+    scratch.mark[x] = 2;
+    queue.pop();
+    for d in 1..=4 {
+        if let Some(y) = plot.ahead(x, column, d) {
+            look_at(ground, learned, scratch, queue, y, g, d);
+        }
     }
-    waiting
 }

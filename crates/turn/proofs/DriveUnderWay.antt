@@ -1,9 +1,10 @@
 -- A drive that is under way: its data are in order, and the moves that it made and what is left to do are bounded together, so that
 -- its moves can be counted. Assumes nothing.
-use mathlib.Core.Path.{◌≡◌, refl}
+use Rattle.std.specs.Prelude.{Ok}
+use mathlib.Core.Path.{◌≡◌}
 use mathlib.Core.Bool.{Bool, true, false, cond}
 use mathlib.Core.List.{List}
-use Prim.Native.Nat.{ℕ, ◌+◌, ◌*◌, ◌≤◌, ◌<◌}
+use Prim.Native.Nat.{ℕ, ◌+◌, ◌*◌, ◌≤◌}
 use native.Mathlib.Nat.{mul-le-mul}
 use native.Mathlib.Omega.{arith}
 use lib.Dec.{ltb, eqb}
@@ -14,7 +15,6 @@ use Rattle.model.specs.Head.{cells_of}
 use Rattle.model.specs.Route.{stands}
 use Rattle.model.specs.Plan.{planned, plan_check}
 use Rattle.model.specs.declared.Head.{Head}
-use Rattle.model.specs.declared.Verdict.TheVariants.{Accepted}
 use Rattle.model.proofs.Lists.Filled.{tally_le}
 use Rattle.model.proofs.Calls.Acceptance.{cells_few}
 use Rattle.model.proofs.Calls.PlanCases.{plan_passed, pass_plan}
@@ -69,21 +69,17 @@ going_on truth k g e =
 -- Over lent lists -----------------------------------------------------------------------------------------------------------------------
 
 module _ {truth : List ℕ} (head : Head) (p : Lent) (s : Scratch) (moves : ℕ) where
-  -- a working space with room for any plot
-  pub going_planable : {heap place gone list : List ℕ} → UnderWay truth (drive_with head p s moves) → Workspace max_cells heap place gone list
+  pub going_planable : {heap place gone list : List ℕ} → UnderWay truth (drive_with head p s moves) → Workspace (cells_of head) heap place gone list
       → Planable head p s heap place gone list
-  going_planable g r = record {
-    passed = record { accepted = pass_plan head p s g.in_order.held g.in_order.sized };
-    space = room_fewer (few (drive_with head p s moves) g.in_order) r;
-  }
+  going_planable g r = record { passed = record { accepted = pass_plan head p s g.in_order.held g.in_order.sized }; space = r }
 
-  pub going_few : UnderWay truth (drive_with head p s moves) → cells_of head ≤ max_cells
-  going_few g = few (drive_with head p s moves) g.in_order
+  -- a working space with room for any plot
+  pub going_room : {heap place gone list : List ℕ} → UnderWay truth (drive_with head p s moves) → Workspace max_cells heap place gone list
+      → Workspace (cells_of head) heap place gone list
+  going_room g r = room_fewer (few (drive_with head p s moves) g.in_order) r
 
-  pub going_counted : UnderWay truth (drive_with head p s moves) → moves < 18446744073709551615
-  going_counted g = omega (arith, g.bound)
-
-pub going_first : (truth : List ℕ) (head : Head) (p : Lent) (s : Scratch) → plan_check head p s ≡ Accepted → UnderWay truth (drive_with head p s 0)
-going_first truth head p s e =
+pub going_first : (truth : List ℕ) (head : Head) (p : Lent) (s : Scratch) {moves : ℕ} → plan_check head p s ≡ Ok tt → moves ≡ 0
+    → UnderWay truth (drive_with head p s moves)
+going_first truth head p s {moves} e z =
     let a = plan_passed head p s e in
-    going_begin truth (drive_with head p s 0) (record { held = a.0; sized = a.1 }) refl
+    going_begin truth (drive_with head p s moves) (record { held = a.0; sized = a.1 }) z

@@ -1,5 +1,6 @@
 -- EVERY DRIVE ENDS: each line leaves less to do. Reports use up cells that are blocked and not known to be; between two of them
 -- a plan makes a route stand, and each move lowers the steps to go. Assumes nothing.
+use Rattle.std.specs.Prelude.{Ok}
 use mathlib.Core.Path.{◌≡◌, refl, sym, ◌∙◌}
 use mathlib.Core.Logic.{◌≢◌}
 use mathlib.Core.Bool.{Bool, true, false, cond, ◌&&◌, false≢true}
@@ -20,7 +21,6 @@ use Rattle.model.specs.Plan.{AfterPlan, planned}
 use Rattle.model.specs.declared.Head.{Head}
 use Rattle.model.specs.declared.Moved.{Moved}
 use Rattle.model.specs.declared.Outcome.{Outcome}
-use Rattle.model.specs.declared.Verdict.TheVariants.{Accepted}
 use Rattle.model.proofs.Lists.Bools.{and_left, and_right, and_false}
 use Rattle.model.proofs.Lists.Filled.{tally_more}
 use Rattle.model.proofs.Grid.Geometry.{Stepped, right, down, left, up, ahead_is}
@@ -115,10 +115,10 @@ sees truth k o = go _ _ _ _ refl refl refl refl
 
 -- less is hidden once the sighted cell is reported: N + 1 for it, and no more than N to go
 module _ (truth : List ℕ) (k : Drive) (o : InOrder k) (c : ℕ) (i : c < cells_of k.head) (s : Sees truth k c) where
-  accepted : report_check k.head k.lent c ≡ Accepted
+  accepted : report_check k.head k.lent c ≡ Ok tt
   accepted = pass_report k.head k.lent c o.held i s.away
 
-  taken : (reported k.head k.lent c).answer.verdict ≡ Accepted
+  taken : (reported k.head k.lent c).answer.verdict ≡ Ok tt
   unfolding reported
   taken = rw (reported, accepted)
 

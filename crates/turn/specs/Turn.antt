@@ -11,7 +11,6 @@ use Rattle.model.specs.Move.{moved}
 use Rattle.model.specs.declared.Head.{Head}
 use Rattle.model.specs.declared.Outcome.{Outcome}
 use Rattle.printing.specs.declared.lines.Line.{Line}
-use Rattle.turn.specs.declared.TurnEnd.{TurnEnd}
 
 -- the drive between two lines
 pub record Drive : Type 0 where
@@ -77,10 +76,5 @@ turn truth k =
     (cond (stands k.head k.lent) (says (Line.Move (after_move k).head.cell) (after_move k))
     (says (plan_line answer.outcome answer.expanded) (after_plan k))))
 
--- What the function answers and leaves, as the drive --------------------------------------------------------------------------------
-
 abbrev pub drive_with : Head → Lent → Scratch → (moves : ℕ) → Drive
 drive_with head p s moves = record { head = head; lent = p; scratch = s; moves = moves }
-
-abbrev pub said_with : TurnEnd → Lent → Scratch → Said
-said_with r p s = says r.line (drive_with r.head p s r.moves)

@@ -1,16 +1,16 @@
 // Printing what a call answers.
 use crate::show::{say, text};
-use model::{Outcome, Reason, Step, Verdict};
+use model::{Outcome, Reason, Step};
 use std::io;
 
 fn refused(rt: &impl Print, why: Reason) -> io::Result<()> {
     say(rt, b" refused", why.number())
 }
 
-pub fn verdict(rt: &impl Print, verdict: Verdict) -> io::Result<()> {
+pub fn verdict(rt: &impl Print, verdict: Result<(), Reason>) -> io::Result<()> {
     match verdict {
-        Verdict::Accepted => text(rt, b" accepted"),
-        Verdict::Refused(why) => refused(rt, why),
+        Ok(()) => text(rt, b" accepted"),
+        Err(why) => refused(rt, why),
     }
 }
 
@@ -24,10 +24,10 @@ pub fn outcome(rt: &impl Print, outcome: Outcome) -> io::Result<()> {
 }
 
 // Cell is where the cart then is.
-pub fn step(rt: &impl Print, step: Step, cell: usize) -> io::Result<()> {
+pub fn step(rt: &impl Print, step: Result<Step, Reason>, cell: usize) -> io::Result<()> {
     match step {
-        Step::Moved => say(rt, b" on", cell),
-        Step::Arrived => text(rt, b" arrived"),
-        Step::Refused(why) => refused(rt, why),
+        Ok(Step::Moved) => say(rt, b" on", cell),
+        Ok(Step::Arrived) => text(rt, b" arrived"),
+        Err(why) => refused(rt, why),
     }
 }

@@ -1,25 +1,44 @@
-// What is lent of a buffer: its first room entries, one fewer where its number is `short`, or all where it has no more. The
-// numbers: 1 ground, 2 learned, 3 link, 4 mark, 5 cost, 6 trail, 7 list.
+// What is lent of the buffers of a call.
 
-fn count(room: usize, short: usize, which: usize) -> usize {
-    if which != short {
-        return room;
-    }
-    if room == 0 { 0 } else { room - 1 }
+// The buffers, in the order of their numbers in the script: ground has 1.
+#[derive(Clone, Copy, Debug, PartialEq, Eq)]
+pub enum Buffer {
+    Ground,
+    Learned,
+    Link,
+    Mark,
+    Cost,
+    Trail,
+    List,
 }
 
-pub fn bytes<'a>(buffer: &'a mut [u8], room: usize, short: usize, which: usize) -> &'a mut [u8] {
-    let n = count(room, short, which);
-    if buffer.len() <= n {
-        return buffer;
+impl Buffer {
+    // The buffer with a number of the script, which is 0 where none is meant.
+    pub fn numbered(number: usize) -> Option<Self> {
+        match number {
+            1 => Some(Self::Ground),
+            2 => Some(Self::Learned),
+            3 => Some(Self::Link),
+            4 => Some(Self::Mark),
+            5 => Some(Self::Cost),
+            6 => Some(Self::Trail),
+            7 => Some(Self::List),
+            _ => None,
+        }
     }
-    &mut buffer[..n]
 }
 
-pub fn words<'a>(buffer: &'a mut [u16], room: usize, short: usize, which: usize) -> &'a mut [u16] {
-    let n = count(room, short, which);
-    if buffer.len() <= n {
-        return buffer;
+// Of each buffer its first room entries are lent, one fewer of the short one, or all where it has no more.
+#[derive(Clone, Copy, Debug, PartialEq, Eq)]
+pub struct Lending {
+    pub room: usize,
+    pub short: Option<Buffer>,
+}
+
+impl Lending {
+    pub fn lend<T: Copy>(self, which: Buffer, buffer: &mut [T]) -> &mut [T] {
+        let fewer = (self.short == Some(which)) as usize;
+        let n = self.room.saturating_sub(fewer).min(buffer.len());
+        &mut buffer[..n]
     }
-    &mut buffer[..n]
 }

@@ -10,43 +10,55 @@ mod script;
 mod show;
 mod state;
 
+use lending::Lending;
 use model::Head;
 use reading::read_full;
-use script::{line_end, number};
+use script::Order;
 use show::{say, text};
-use state::{State, checksum};
+use state::State;
 use std::io;
 
-// What a line says, which is known by its first letter; its numbers are a, b, c and d. A letter that means nothing shows the
-// entries, so that a slip of the pen is seen.
-fn obey(
-    rt: &impl Print,
-    s: State,
-    letter: u8,
-    a: usize,
-    b: usize,
-    c: usize,
-    d: usize,
-) -> io::Result<State> {
-    match letter {
-        b'#' => Ok(s),
-        b'f' => Ok(state::fresh(a, b, 99, 999)),
-        b'z' => Ok(state::fresh(a, b, 0, 0)),
-        b'h' => Ok(state::head(s, a, b, c, d)),
-        b'c' => Ok(state::cell(s, a, b, c, d)),
-        b'l' => calling::layout(rt, s, a, b, c, d),
-        b'r' => calling::report(rt, s, a),
-        b'p' => calling::plan(rt, s),
-        b'm' => calling::advance(rt, s),
-        b'q' => calling::list(rt, s),
-        _ => state::entries(rt, s, a),
+fn obey(rt: &impl Print, s: &mut State, order: Order) -> io::Result<()> {
+    match order {
+        Order::Note => Ok(()),
+        Order::Fresh(lending) => {
+            *s = State::fresh(lending, 99, 999);
+            Ok(())
+        }
+        Order::Zeros(lending) => {
+            *s = State::fresh(lending, 0, 0);
+            Ok(())
+        }
+        Order::Head(head) => {
+            s.head = head;
+            Ok(())
+        }
+        Order::Cell {
+            c,
+            ground,
+            learned,
+            link,
+        } => {
+            s.set_cell(c, ground, learned, link);
+            Ok(())
+        }
+        Order::Layout {
+            width,
+            height,
+            start,
+            goal,
+        } => s.layout(rt, width, height, start, goal),
+        Order::Report(c) => s.report(rt, c),
+        Order::Plan => s.plan(rt),
+        Order::Move => s.advance(rt),
+        Order::Question => s.list(rt),
+        Order::Entries(n) => s.tell_entries(rt, n),
     }
 }
 
 // The head, where it is another than before.
 fn tell(rt: &impl Print, before: Head, head: Head) -> io::Result<()> {
-    let plot = (before.width == head.width) & (before.height == head.height);
-    if plot & (before.goal == head.goal) & (before.cell == head.cell) {
+    if before == head {
         return Ok(());
     }
     say(rt, b"; head", head.width)?;
@@ -56,47 +68,35 @@ fn tell(rt: &impl Print, before: Head, head: Head) -> io::Result<()> {
 }
 
 // A line is printed with what comes of it, and whether any entry of a buffer is then another.
-fn obey_line(rt: &impl Print, s: State, letter: u8, line: &[u8]) -> io::Result<State> {
+fn obey_line(rt: &impl Print, s: &mut State, line: &[u8]) -> io::Result<()> {
     text(rt, line)?;
     let given = s.head;
-    let sum = checksum(rt, &s, 0)?;
-    let next = obey(
-        rt,
-        s,
-        letter,
-        number(line, 1),
-        number(line, 2),
-        number(line, 3),
-        number(line, 4),
-    )?;
-    tell(rt, given, next.head)?;
-    if sum != checksum(rt, &next, 0)? {
+    let sum = s.checksum(rt, 0)?;
+    obey(rt, s, Order::from(line))?;
+    tell(rt, given, s.head)?;
+    if sum != s.checksum(rt, 0)? {
         text(rt, b"; changed")?;
     }
-    text(rt, b"\n")?;
-    Ok(next)
+    text(rt, b"\n")
 }
 
 fn run(rt: &impl Print, script: &[u8]) -> io::Result<()> {
-    let mut s = state::fresh(0, 0, 0, 0);
-    let mut at = 0;
-    while at < script.len() {
-        let end = line_end(script, at);
-        s = obey_line(rt, s, script[at], &script[at..end])?;
-        if script.len() <= end {
-            return Ok(());
-        }
-        at = end + 1;
+    let nothing = Lending {
+        room: 0,
+        short: None,
+    };
+    let mut s = State::fresh(nothing, 0, 0);
+    for line in script.split_inclusive(|byte| *byte == b'\n') {
+        obey_line(rt, &mut s, line.strip_suffix(b"\n").unwrap_or(line))?;
     }
     Ok(())
 }
 
 fn main(rt: HostRuntime) -> io::Result<()> {
-    let mut space: [u8; 16384] = [0; 16384];
+    let mut space = [0u8; 16384];
     let n = read_full(&mut rt.stdin(), &mut space)?;
-    if n < 16384 {
-        run(&rt, &space[..n])
-    } else {
-        text(&rt, b"the script is too long\n")
+    if n == 16384 {
+        return text(&rt, b"the script is too long\n");
     }
+    run(&rt, &space[..n])
 }

@@ -1,17 +1,32 @@
-// The script's text: lines of words, with one space between two words.
-ghost use Rattle.std.specs.Prelude.{◌≤◌, length};
+// The script's text: what a line says.
+use crate::lending::{Buffer, Lending};
+use model::Head;
 
-// Where the line that starts at `at` ends: at its line feed, or with the script.
-pub fn line_end(script: &[u8], at: usize) -> usize
-    requires { at ≤ length script.now }
-    ensures { (at ≤ result) × (result ≤ length script.now) }
-{
-    for end in at..script.len() {
-        if script[end] == b'\n' {
-            return end;
-        }
-    }
-    script.len()
+// A line is known by its first letter, and its numbers follow its name. A letter that means nothing shows the entries, so that a
+// slip of the pen is seen.
+#[derive(Clone, Copy, Debug, PartialEq, Eq)]
+pub enum Order {
+    Note,
+    Fresh(Lending),
+    Zeros(Lending),
+    Head(Head),
+    Cell {
+        c: usize,
+        ground: usize,
+        learned: usize,
+        link: usize,
+    },
+    Layout {
+        width: usize,
+        height: usize,
+        start: usize,
+        goal: usize,
+    },
+    Report(usize),
+    Plan,
+    Move,
+    Question,
+    Entries(usize),
 }
 
 // The number with one digit more. It wraps where 64 bits don't hold it.
@@ -20,16 +35,47 @@ fn with_digit(n: usize, digit: u8) -> usize {
     (n % 1844674407370955162 * 10).wrapping_add(units)
 }
 
-// The number at this place of a line, whose first word has place 0; 0 where the line ends before it.
-pub fn number(line: &[u8], place: usize) -> usize {
-    let mut n = 0;
-    let mut at: usize = 0;
-    for byte in line {
-        if *byte == b' ' {
-            at = at.wrapping_add(1);
-        } else if at == place {
-            n = with_digit(n, *byte);
+// The number at this place of a line, whose first word has place 0; 0 where the line ends before it. (No `parse`: a slip of the pen
+// must show what it always showed.)
+fn number(line: &[u8], place: usize) -> usize {
+    match line.split(|byte| *byte == b' ').nth(place) {
+        Some(word) => word.iter().fold(0, |n, digit| with_digit(n, *digit)),
+        None => 0,
+    }
+}
+
+impl From<&[u8]> for Order {
+    fn from(line: &[u8]) -> Self {
+        let a = number(line, 1);
+        let b = number(line, 2);
+        let c = number(line, 3);
+        let d = number(line, 4);
+        let lending = Lending {
+            room: a,
+            short: Buffer::numbered(b),
+        };
+        match line.first() {
+            Some(b'#') => Self::Note,
+            Some(b'f') => Self::Fresh(lending),
+            Some(b'z') => Self::Zeros(lending),
+            Some(b'h') => Self::Head(Head::new(a, b, c, d)),
+            Some(b'c') => Self::Cell {
+                c: a,
+                ground: b,
+                learned: c,
+                link: d,
+            },
+            Some(b'l') => Self::Layout {
+                width: a,
+                height: b,
+                start: c,
+                goal: d,
+            },
+            Some(b'r') => Self::Report(a),
+            Some(b'p') => Self::Plan,
+            Some(b'm') => Self::Move,
+            Some(b'q') => Self::Question,
+            _ => Self::Entries(a),
         }
     }
-    n
 }

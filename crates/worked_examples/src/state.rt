@@ -1,81 +1,70 @@
-// What is held from line to line: the buffers, how much of them is lent, and the head. It goes by value: a choice of a call over
-// seven lent buffers takes far longer to check.
-use crate::show::{bytes, say, words};
+// What is held from line to line: the buffers, what is lent of them, and the head.
+use crate::lending::Lending;
+use crate::show::{entries, say};
 use model::Head;
 use std::io;
 
 // Entries of each buffer: two more than the largest plot has cells.
 pub const ROOM: usize = Head::MAX_CELLS + 2;
 
-// Room entries of each buffer are lent, and one fewer of the buffer with the number `short` (see `lending`). The buffers that
-// calls take last stand first: a search for their lengths, far into a proof, gets no further.
 #[derive(Drop)]
 pub struct State {
-    pub list: [u16; ROOM],
-    pub trail: [u8; ROOM],
-    pub cost: [u16; ROOM],
-    pub mark: [u8; ROOM],
-    pub link: [u8; ROOM],
-    pub learned: [u16; ROOM],
     pub ground: [u8; ROOM],
-    pub room: usize,
-    pub short: usize,
+    pub learned: [u16; ROOM],
+    pub link: [u8; ROOM],
+    pub mark: [u8; ROOM],
+    pub cost: [u16; ROOM],
+    pub trail: [u8; ROOM],
+    pub list: [u16; ROOM],
+    pub lending: Lending,
     pub head: Head,
 }
 
-// `fresh room short`, `zeros room short`: every byte holds b, and every 16-bit entry w.
-pub fn fresh(room: usize, short: usize, b: u8, w: u16) -> State {
-    let bytes = [b; ROOM];
-    let words = [w; ROOM];
-    State {
-        list: words,
-        trail: bytes,
-        cost: words,
-        mark: bytes,
-        link: bytes,
-        learned: words,
-        ground: bytes,
-        room,
-        short,
-        head: Head::none(),
+impl State {
+    // Every byte holds b, and every 16-bit entry w.
+    pub fn fresh(lending: Lending, b: u8, w: u16) -> Self {
+        let bytes = [b; ROOM];
+        let words = [w; ROOM];
+        Self {
+            ground: bytes,
+            learned: words,
+            link: bytes,
+            mark: bytes,
+            cost: words,
+            trail: bytes,
+            list: words,
+            lending,
+            head: Head::none(),
+        }
     }
-}
 
-// `head width height goal cell`.
-pub fn head(mut s: State, width: usize, height: usize, goal: usize, cell: usize) -> State {
-    let given = Head::new(width, height, goal, cell);
-    s.head = given;
-    s
-}
-
-// `cell c ground learned link`: what the three buffers hold at c.
-pub fn cell(mut s: State, c: usize, ground: usize, learned: usize, link: usize) -> State {
-    if c < ROOM {
-        s.ground[c] = (ground % 256) as u8;
-        s.learned[c] = (learned % 65536) as u16;
-        s.link[c] = (link % 256) as u8;
+    // What the three buffers hold at c.
+    pub fn set_cell(&mut self, c: usize, ground: usize, learned: usize, link: usize) {
+        if c < ROOM {
+            self.ground[c] = (ground % 256) as u8;
+            self.learned[c] = (learned % 65536) as u16;
+            self.link[c] = (link % 256) as u8;
+        }
     }
-    s
-}
 
-// `entries n`: the first n of each buffer, and the checksum of all.
-pub fn entries(rt: &impl Print, s: State, n: usize) -> io::Result<State> {
-    say(rt, b"\n  sum", checksum(rt, &s, n)?)?;
-    Ok(s)
-}
+    // The first n entries of each buffer, and the checksum of all.
+    pub fn tell_entries(&self, rt: &impl Print, n: usize) -> io::Result<()> {
+        say(rt, b"\n  sum", self.checksum(rt, n)?)
+    }
 
-// The checksum of every entry of every buffer. The first n entries of each are printed.
-pub fn checksum(rt: &impl Print, s: &State, n: usize) -> io::Result<usize> {
-    let mut sum = bytes(rt, 0, b"\n  ground", &s.ground, n)?;
-    sum = words(rt, sum, b"\n  learned", &s.learned, n)?;
-    sum = bytes(rt, sum, b"\n  link", &s.link, n)?;
-    checksum_on(rt, s, n, sum)
-}
+    // The checksum of every entry of every buffer. The first n entries of each are printed.
+    pub fn checksum(&self, rt: &impl Print, n: usize) -> io::Result<usize> {
+        let mut sum = entries(rt, 0, b"\n  ground", &self.ground, n)?;
+        sum = entries(rt, sum, b"\n  learned", &self.learned, n)?;
+        sum = entries(rt, sum, b"\n  link", &self.link, n)?;
+        self.checksum_on(rt, n, sum)
+    }
 
-// The same of scratch and of list's buffer, from a checksum on.
-fn checksum_on(rt: &impl Print, s: &State, n: usize, from: usize) -> io::Result<usize> {
-    let mut sum = bytes(rt, from, b"\n  mark", &s.mark, n)?;
-    sum = words(rt, sum, b"\n  cost", &s.cost, n)?;
-    sum = bytes(rt, sum, b"\n  trail", &s.trail, n)?;
-    words(rt, sum, b"\n  list", &s.list, n)
+    // The same of scratch and of list's buffer, from a checksum on.
+    fn checksum_on(&self, rt: &impl Print, n: usize, from: usize) -> io::Result<usize> {
+        let mut sum = entries(rt, from, b"\n  mark", &self.mark, n)?;
+        sum = entries(rt, sum, b"\n  cost", &self.cost, n)?;
+        sum = entries(rt, sum, b"\n  trail", &self.trail, n)?;
+        entries(rt, sum, b"\n  list", &self.list, n)
+    }
 }

@@ -4,7 +4,7 @@ use Prim.Native.Nat.{ℕ, zero, suc, ◌+◌, ◌*◌, ◌≤◌, ◌<◌}
 use mathlib.Core.Path.{◌≡◌, refl, ap, ◌∙◌}
 use mathlib.Core.Bool.{false}
 use mathlib.Core.List.{List}
-use native.Mathlib.Nat.{suc-mul, mul_comm, mul-le-mul, mod-eq_of_lt, mul-add-mod_self_right, div-le_self, div-eq_of_lt-le}
+use native.Mathlib.Nat.{zero-mul, suc-mul, mul_comm, mul-le-mul, mod-eq_of_lt, mul-add-mod_self_right, div-le_self, div-eq_of_lt-le}
 use native.Mathlib.Numerals.{add-one}
 use native.Mathlib.Omega.{arith}
 use lib.ListN.{length, set, length-set}
@@ -63,32 +63,32 @@ module _ (w goal r : ℕ) where
       let q : r * w + suc k ≡ suc (r * w + k) = omega arith in
       rw (q, row_fills l k (omega arith), distance_at k (omega arith))
 
--- l is l₀ with the distances of the first r rows; the next begins at `first`
-pub record RowsFilled (w goal r first : ℕ) (l₀ l : List ℕ) : Type 0 where
-  pub begins : first ≡ r * w
-  pub fills : Filled (distance w goal) first l₀ l
+-- l is l₀ with the distances of the first r rows
+pub record RowsFilled (w goal r : ℕ) (l₀ l : List ℕ) : Type 0 where
+  pub fills : Filled (distance w goal) (r * w) l₀ l
 
-pub rows_begin : (w goal : ℕ) (l : List ℕ) → RowsFilled w goal 0 0 l l
-rows_begin w goal l = record { begins = omega arith; fills = fill_begin (distance w goal) l }
+pub rows_begin : (w goal : ℕ) (l : List ℕ) → RowsFilled w goal 0 l l
+rows_begin w goal l = let none : 0 * w ≡ 0 = zero-mul w in record { fills = rw none (fill_begin (distance w goal) l) }
 
 -- one row more, g rows from the goal's
-pub rows_next : {w goal r first : ℕ} {l₀ l : List ℕ} (g : ℕ) (l' : List ℕ) → RowsFilled w goal r first l₀ l → g ≡ gap (row w goal) r
-    → l' ≡ row_filled first g (column w goal) w l → RowsFilled w goal (r + 1) (first + w) l₀ l'
-rows_next {w} {goal} {r} {first} {l₀} {l} g l' f e q = record {
-  begins = rw (add-one r) (omega (arith, suc-mul r w, f.begins));
-  fills = record {
-    is = rw (q, e, f.fills.is, f.begins) (row_fills w goal r l₀ w (omega arith));
-    long = row_long (record { is = q }) ∙ f.fills.long;
-  };
-}
+pub rows_next : {w goal r : ℕ} {l₀ l : List ℕ} (g : ℕ) (l' : List ℕ) → RowsFilled w goal r l₀ l → g ≡ gap (row w goal) r
+    → l' ≡ row_filled (r * w) g (column w goal) w l → RowsFilled w goal (r + 1) l₀ l'
+rows_next {w} {goal} {r} {l₀} {l} g l' f e q =
+    let more : (r + 1) * w ≡ r * w + w = rw (add-one r) (omega (arith, suc-mul r w)) in
+    record {
+      fills = rw more (record {
+        is = rw (q, e, f.fills.is) (row_fills w goal r l₀ w (omega arith));
+        long = row_long (record { is = q }) ∙ f.fills.long;
+      });
+    }
 
-pub rows_end : {w goal r first : ℕ} {l₀ l : List ℕ} (h : ℕ) → RowsFilled w goal r first l₀ l → r ≡ h → l ≡ filled (cells w h) (distance w goal) l₀
-rows_end {w} {goal} {r} h f e = fill_end (cells w h) f.fills (f.begins ∙ ap (λ (k : ℕ). k * w) e ∙ mul_comm h w)
+pub rows_end : {w goal r : ℕ} {l₀ l : List ℕ} (h : ℕ) → RowsFilled w goal r l₀ l → r ≡ h → l ≡ filled (cells w h) (distance w goal) l₀
+rows_end {w} {goal} {r} h f e = fill_end (cells w h) f.fills (ap (λ (k : ℕ). k * w) e ∙ mul_comm h w)
 
 -- a row of the plot has room
-pub row_room : {w goal r first : ℕ} {l₀ l : List ℕ} (h : ℕ) → cells w h ≤ length l₀ → r < h → RowsFilled w goal r first l₀ l → first + w ≤ length l
+pub row_room : {w goal r : ℕ} {l₀ l : List ℕ} (h : ℕ) → cells w h ≤ length l₀ → r < h → RowsFilled w goal r l₀ l → r * w + w ≤ length l
 row_room {w} {r = r} h room i f =
-    let last : suc r * w ≤ h * w = mul-le-mul i (omega arith) in omega (arith, suc-mul r w, mul_comm h w, f.begins, f.fills.long)
+    let last : suc r * w ≤ h * w = mul-le-mul i (omega arith) in omega (arith, suc-mul r w, mul_comm h w, f.fills.long)
 
 -- and its distances are small
 pub rows_few : (w h goal r : ℕ) → bad_sides w h ≡ false → goal < cells w h → r < h → row w goal + r + w ≤ 65536

@@ -1,5 +1,6 @@
 -- List's verdict in each of its cases, and what it gives to the walk that writes.
 -- Assumes nothing.
+use Rattle.std.specs.Prelude.{Ok, Err}
 use Prim.Native.Nat.{ℕ, ◌+◌, ◌≤◌, ◌<◌}
 use mathlib.Core.Path.{◌≡◌, sym, ◌∙◌}
 use mathlib.Core.Bool.{Bool, true, false, not}
@@ -16,7 +17,6 @@ use Rattle.model.specs.Listing.{list_check}
 use Rattle.model.specs.Ways.{Accepts}
 use Rattle.model.specs.declared.Head.{Head}
 use Rattle.model.specs.declared.Reason.TheVariants.{Short, NoRoute}
-use Rattle.model.specs.declared.Verdict.TheVariants.{Accepted, Refused}
 use Rattle.model.proofs.Calls.Acceptance.{passed, both_passed, accepts_held}
 use Rattle.model.proofs.Grid.RouteLaws.{RouteOn, leads_stands}
 use Rattle.model.proofs.Lists.Fronted.{fronted_front}
@@ -36,29 +36,29 @@ module _ (head : Head) (p : Lent) where
 
   -- The verdict; s is whether the route stands
   module _ (a : Accepts head p) (buffer : List ℕ) (s : Bool) (e : s ≡ stands head p) where
-    pub list_lost : s ≡ false → Refused NoRoute ≡ list_check head p buffer
+    pub list_lost : s ≡ false → Err NoRoute ≡ list_check head p buffer
     unfolding list_check
     list_lost no-route = rw (a, sym e ∙ no-route)
 
-    pub list_short : s ≡ true → length buffer ≤ get_or p.learned head.cell 0 → Refused Short ≡ list_check head p buffer
+    pub list_short : s ≡ true → length buffer ≤ get_or p.learned head.cell 0 → Err Short ≡ list_check head p buffer
     unfolding list_check
     list_short stood few = rw (a, sym e ∙ stood, lt-ltb (length buffer) (length (route head p)) (omega (arith, route_long)))
 
-    pub list_passes : s ≡ true → get_or p.learned head.cell 0 < length buffer → Accepted ≡ list_check head p buffer
+    pub list_passes : s ≡ true → get_or p.learned head.cell 0 < length buffer → (Ok tt) ≡ list_check head p buffer
     unfolding list_check
     list_passes stood room = rw (a, sym e ∙ stood, le-ltb (length buffer) (length (route head p)) (omega (arith, route_long)))
 
   -- where it accepts, so are the data, and the route can be written
-  pub list_accepts : (buffer : List ℕ) → list_check head p buffer ≡ Accepted → Accepts head p
+  pub list_accepts : (buffer : List ℕ) → list_check head p buffer ≡ Ok tt → Accepts head p
   unfolding list_check
   list_accepts buffer ok = (both_passed (acceptance head p) _ ok).0
 
-  pub list_writable : (buffer : List ℕ) → list_check head p buffer ≡ Accepted
+  pub list_writable : (buffer : List ℕ) → list_check head p buffer ≡ Ok tt
       → Writable head.width head.height (get_or p.learned head.cell 0) head.cell p.link buffer
   unfolding list_check
   list_writable buffer ok =
       let t =
-      both_passed (acceptance head p) (refuse_if (not (stands head p)) NoRoute (refuse_if (too_short (length (route head p)) buffer) Short Accepted))
+      both_passed (acceptance head p) (refuse_if (not (stands head p)) NoRoute (refuse_if (too_short (length (route head p)) buffer) Short (Ok tt)))
       ok in
       let u = passed (not (stands head p)) _ _ t.1 in
       let room : length (route head p) ≤ length buffer = ltb-false _ _ (passed (too_short (length (route head p)) buffer) _ _ u.1).0 in
@@ -73,7 +73,7 @@ module _ (head : Head) (p : Lent) where
       }
 
   -- k cells were written
-  pub list_filled : (buffer l : List ℕ) (k : ℕ) → list_check head p buffer ≡ Accepted → k ≡ get_or p.learned head.cell 0 + 1
+  pub list_filled : (buffer l : List ℕ) (k : ℕ) → list_check head p buffer ≡ Ok tt → k ≡ get_or p.learned head.cell 0 + 1
       → l ≡ fronted (cells_from head.width head.height p.link (get_or p.learned head.cell 0) head.cell) buffer
       → RouteFilled head p buffer k l
   unfolding route

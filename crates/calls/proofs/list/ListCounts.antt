@@ -1,5 +1,6 @@
 -- List's verdict after acceptance, what list leaves in its two cases, and the question's number.
 -- Assumes nothing.
+use Rattle.std.specs.Prelude.{Ok, Err}
 use Prim.Native.Nat.{ℕ}
 use mathlib.Core.Path.{◌≡◌, sym, ap, ◌∙◌}
 use mathlib.Core.List.{List}
@@ -10,32 +11,31 @@ use Rattle.model.specs.Numbers.{reason_number}
 use Rattle.model.specs.Listing.{AfterList, list_check, listed, list_question}
 use Rattle.model.specs.declared.Head.{Head}
 use Rattle.model.specs.declared.Reason.{Reason}
-use Rattle.model.specs.declared.Verdict.{Verdict}
-use Rattle.model.specs.declared.Verdict.TheVariants.{Accepted, Refused}
+use Rattle.model.specs.Verdict.{Verdict}
 use Rattle.calls.specs.RouteWritten.{RouteFilled}
 use Rattle.calls.proofs.list.ListCases.{filled_back}
 use Rattle.calls.specs.Counted.{Counted}
 
 module _ (head : Head) (p : Lent) (buffer : List ℕ) where
   -- data that are not accepted are not listed
-  pub list_refused : {v : Verdict} {why : Reason} → v ≡ acceptance head p → v ≡ Refused why → Refused why ≡ list_check head p buffer
+  pub list_refused : {v : Verdict} {why : Reason} → v ≡ acceptance head p → v ≡ Err why → Err why ≡ list_check head p buffer
   unfolding list_check
   list_refused e q = rw (sym e ∙ q)
 
-  pub number_none : {v : Verdict} → v ≡ list_check head p buffer → v ≡ Accepted → 0 ≡ list_question head p buffer
+  pub number_none : {v : Verdict} → v ≡ list_check head p buffer → v ≡ Ok tt → 0 ≡ list_question head p buffer
   unfolding list_question
   number_none e q = rw (sym e ∙ q)
 
-  pub number_why : {v : Verdict} {why : Reason} (n : ℕ) → v ≡ list_check head p buffer → v ≡ Refused why → n ≡ reason_number why
+  pub number_why : {v : Verdict} {why : Reason} (n : ℕ) → v ≡ list_check head p buffer → v ≡ Err why → n ≡ reason_number why
       → n ≡ list_question head p buffer
   unfolding list_question
   number_why n e q is = rw (sym e ∙ q) is
 
-  pub count_none : {v : Verdict} {why : Reason} → v ≡ list_check head p buffer → v ≡ Refused why → Counted head p buffer 0 buffer
+  pub count_none : {v : Verdict} {why : Reason} → v ≡ list_check head p buffer → v ≡ Err why → Counted head p buffer 0 buffer
   unfolding listed
   count_none e q = record { count = rw (sym e ∙ q, listed); leaves = rw (sym e ∙ q, listed) }
 
-  pub count_filled : {k : ℕ} {l : List ℕ} → list_check head p buffer ≡ Accepted → RouteFilled head p buffer k l → Counted head p buffer k l
+  pub count_filled : {k : ℕ} {l : List ℕ} → list_check head p buffer ≡ Ok tt → RouteFilled head p buffer k l → Counted head p buffer k l
   unfolding listed
   count_filled {k} {l} ok f = record {
     count = rw (ok, listed) f.count;

@@ -18,7 +18,7 @@ module _ {w h : ℕ} {link : List ℕ} where
   onward_here (ends i) = i
   onward_here (goes i _) = i
 
-  onward_next : {v c : ℕ} → Onward w h link v c → 0 < v → Onward w h link (v - 1) (next w h link c)
+  pub onward_next : {v c : ℕ} → Onward w h link v c → 0 < v → Onward w h link (v - 1) (next w h link c)
   onward_next (ends i) some = absurd (omega arith)
   onward_next (goes {v} i rest) some = let e : suc v - 1 ≡ v = omega arith in rw e rest
 

@@ -1,6 +1,6 @@
 -- The links that lead to c, cut in the four directions, are those that a report cuts over all cells.
 -- Assumes nothing.
-use Prim.Native.Nat.{ℕ, zero, suc, ◌+◌, ◌≤◌, ◌<◌}
+use Prim.Native.Nat.{ℕ, zero, suc, ◌+◌, ◌-◌, ◌≤◌, ◌<◌}
 use mathlib.Core.Path.{◌≡◌, refl, sym, ap, ◌∙◌}
 use mathlib.Core.Logic.{◌≢◌, ◌⊎◌, inl, inr}
 use mathlib.Core.List.{List}
@@ -162,6 +162,17 @@ pub cut_next : {w h c k : ℕ} {l₀ l : List ℕ} (y d : ℕ) (l' : List ℕ) �
     → l' ≡ cut_at (cells w h) y d l → Cut w h c (k + 1) l₀ l'
 unfolding cut_to
 cut_next {k = k} y d l' t a o e = record { is = rw (add-one k, e, a, o, t.is) }
+
+-- from direction 1 on: direction d cut, or nothing there to cut
+module _ {w h c d : ℕ} {l₀ l : List ℕ} (low : 1 ≤ d) (t : Cut w h c (d - 1) l₀ l) where
+  pub cut_there : (y e : ℕ) (l' : List ℕ) → y ≡ ahead w h c d → e ≡ opposite d → l' ≡ cut_at (cells w h) y e l → Cut w h c (d + 1 - 1) l₀ l'
+  cut_there y e l' a o q =
+      let this : d - 1 + 1 ≡ d = omega arith in
+      let next : d + 1 - 1 ≡ d - 1 + 1 = omega arith in
+      rw next (cut_next y e l' t (rw this a) (rw this o) q)
+
+  pub cut_nowhere : cells w h ≤ ahead w h c d → Cut w h c (d + 1 - 1) l₀ l
+  cut_nowhere off = cut_there (ahead w h c d) (opposite d) l refl refl (sym (cut_off (cells w h) (ahead w h c d) (opposite d) l off))
 
 pub cut_length : {w h c k : ℕ} {l₀ l : List ℕ} → Cut w h c k l₀ l → length l ≡ length l₀
 cut_length {w} {h} {c} {k} {l₀} t = ap length t.is ∙ cuts_long w h c l₀ k

@@ -6,17 +6,14 @@ use mathlib.Core.Bool.{Bool, true, not, ◌&&◌, ◌||◌}
 use mathlib.Core.List.{List}
 use Prim.Native.Nat.{ℕ, ◌+◌, ◌-◌, ◌≤◌, ◌<◌}
 use native.Mathlib.Omega.{arith}
-use borrow.Author.Tests.{ltb-false, leb-true, eqb-true, eqb-false, not-true, eq-eqb, ne_eqb, le-ltb, le-leb}
+use borrow.Author.Tests.{ltb-false, leb-true, eqb-true, eqb-false, eq-eqb, ne_eqb, le-ltb, le-leb}
 use lib.Dec.{ltb, leb, eqb}
 use lib.ListN.{get_or}
 use Rattle.model.specs.Lists.{every}
 use Rattle.model.specs.Plot.{gap}
-use Rattle.model.proofs.Lists.Bools.{and_left, and_right, and_both, or_right, make_or, use_test, make_test}
+use Rattle.model.proofs.Lists.Bools.{and_left, and_right, and_both, or_right, make_or, use_test, make_test, not_eqb}
 use Rattle.model.proofs.Lists.Filled.{every_at, all_every}
 use Rattle.checks.specs.Flat.{cell_test, cell_at, small_at, near_test, near_at, lead_test, lead_at, pairs, edge_test, edge_at, alone, flat}
-
-differ : (a b : ℕ) → not (eqb a b) ≡ true → a ≢ b
-differ a b t = eqb-false a b (not-true (eqb a b) t)
 
 differing : (a b : ℕ) → a ≢ b → not (eqb a b) ≡ true
 differing a b f = ap not (ne_eqb a b f)
@@ -111,11 +108,6 @@ module _ (step to from n : ℕ) (g l k e : List ℕ) where
       (all_every n (near_at step g l e) (λ i m. near_write _ _ _ _ _ (f i m).near))
       (all_every n (lead_at step to from g k e) (λ i m. lead_write _ _ _ _ _ _ _ to from (f i m)))
 
-  -- the results of the two passes together
-  pub pairs_are : (a b : Bool) → a ≡ every n (near_at step g l e) → b ≡ every n (lead_at step to from g k e) → (a && b) ≡ pairs step to from n g l k e
-  unfolding pairs
-  pairs_are a b p q = rw (p, q)
-
 pub record Facts (w n goal cell : ℕ) (g l k e b : List ℕ) : Type 0 where
   pub own : (i : ℕ) → i < n → Own (get_or g i 0) (get_or k i 0)
   pub small : (i : ℕ) → i < n → get_or l i 0 ≤ n - 1
@@ -159,10 +151,10 @@ module _ (w n goal cell : ℕ) (g l k e b : List ℕ) where
         small = λ i m. leb-true _ _ (every_at n (small_at (n - 1) l) (and_right (every n (cell_at g k)) _ own) i m);
         right = pairs_read 1 1 3 (n - 1) g l k e (and_left right_t _ pairs);
         below = pairs_read w 2 4 (n - w) g l k b (and_right right_t _ pairs);
-        first = λ i m. differ (get_or k i 0) 4 (and_left (not (eqb (get_or k i 0) 4)) _ (edge i m));
-        last = λ i m. differ (get_or k (n - w + i) 0) 2 (and_right (not (eqb (get_or k i 0) 4)) _ (edge i m));
-        start = differ (get_or k 0 0) 3 (and_left (not (eqb (get_or k 0 0) 3)) _ corner);
-        stop = differ (get_or k (n - 1) 0) 1 (and_right (not (eqb (get_or k 0 0) 3)) _ corner);
+        first = λ i m. not_eqb (get_or k i 0) 4 (and_left (not (eqb (get_or k i 0) 4)) _ (edge i m));
+        last = λ i m. not_eqb (get_or k (n - w + i) 0) 2 (and_right (not (eqb (get_or k i 0) 4)) _ (edge i m));
+        start = not_eqb (get_or k 0 0) 3 (and_left (not (eqb (get_or k 0 0) 3)) _ corner);
+        stop = not_eqb (get_or k (n - 1) 0) 1 (and_right (not (eqb (get_or k 0 0) 3)) _ corner);
         cart = eqb-true _ _ (and_left (eqb (get_or g cell 0) 0) _ here);
         home = eqb-true _ _ (and_left (eqb (get_or l goal 0) 0) _ zeros);
         rest = eqb-true _ _ (and_right (eqb (get_or l goal 0) 0) _ zeros);
@@ -189,11 +181,3 @@ module _ (w n goal cell : ℕ) (g l k e b : List ℕ) where
   pub flat_is : (a c d : Bool) → a ≡ alone_t → c ≡ right_t → d ≡ pairs w 2 4 (n - w) g l k b → (a && (c && d)) ≡ flat w n goal cell g l k e b
   unfolding flat
   flat_is a c d p q r = rw (p, q, r)
-
-module _ (w n goal cell : ℕ) (g l k : List ℕ) where
-  pub alone_is : (a b f : Bool) → a ≡ every n (cell_at g k) → b ≡ every n (small_at (n - 1) l) → f ≡ every w (edge_at (n - w) k)
-      → ((a && b)
-      && ((f && (not (eqb (get_or k 0 0) 3) && not (eqb (get_or k (n - 1) 0) 1)))
-      && (eqb (get_or g cell 0) 0 && (eqb (get_or l goal 0) 0 && eqb (get_or k goal 0) 0)))) ≡ alone w n goal cell g l k
-  unfolding alone
-  alone_is a b f p q u = rw (p, q, u)

@@ -4,7 +4,7 @@ use mathlib.Core.Path.{◌≡◌, refl, ap, ◌∙◌}
 use mathlib.Core.Bool.{Bool, true, false}
 use mathlib.Core.List.{List}
 use Prim.Native.Nat.{ℕ, ◌+◌, ◌-◌, ◌*◌, ◌/◌, ◌≤◌, ◌<◌}
-use native.Mathlib.Nat.{div-add-mod', suc-mul, mod-lt, mul-le-mul_right, mul_comm, not-suc-le-zero}
+use native.Mathlib.Nat.{div-add-mod', suc-mul, mod-lt, mul-le-mul_right, mul_comm}
 use native.Mathlib.Decide.{ℕ_discrete}
 use native.Mathlib.Numerals.{add-one}
 use native.Mathlib.Omega.{arith}
@@ -59,9 +59,6 @@ rows_apart r s w c d l e q = go (ℕ_discrete r s)
         side true t = omega (arith, row_in r s w (omega (arith, leb-true r s t)))
         side false t = omega (arith, row_in s r w (leb-false r s t))
 
-pub mark_start : (w : ℕ) (end : List ℕ) → Clear end → EndsMarked w 0 end
-mark_start w end z = record { inside = λ r c l. z.zero (r * w + c); last = λ r c l e. absurd (not-suc-le-zero l) }
-
 pub mark_next : (w row at : ℕ) (end : List ℕ) → 0 < w → at ≡ row * w + (w - 1) → at < length end → EndsMarked w row end
     → EndsMarked w (row + 1) (set end at 1)
 mark_next w row at end p q long m = record {
@@ -75,9 +72,6 @@ mark_next w row at end p q long m = record {
         rw same (get_or-set_same end at 1 0 long)
     go r c e (no f) l =
         get_or-set_other end at (r * w + c) 1 0 (λ x. omega (arith, row_in r row w (omega arith))) ∙ m.last r c (omega arith) e
-
-pub mark_end : (w row h : ℕ) (end : List ℕ) → row ≤ h → h ≤ row → EndsMarked w row end → EndsMarked w h end
-mark_end w row h end l m d = let e : row ≡ h = omega arith in rw e at d
 
 -- a list of zeros
 pub clear_zeros : (n : ℕ) → Clear (replicate n 0)

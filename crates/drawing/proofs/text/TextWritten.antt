@@ -1,17 +1,19 @@
--- The text of a drawing is written part by part, and bytes are compared with it one by one.
+-- The text of a drawing is written part by part, and bytes are compared with it.
 -- Assumes nothing.
-use Prim.Native.Nat.{ℕ, suc, ◌+◌, ◌*◌, ◌≤◌, ◌<◌}
+use Rattle.std.specs.Prelude.{nat_eq}
+use Rattle.std.specs.List.{between}
+use Rattle.std.specs.Cmp.Lexicographic.{pointwise}
+use Rattle.std.proofs.lemmas.List.Edits.{length-between, get_or-between}
+use Prim.Native.Nat.{ℕ, ◌+◌, ◌*◌, ◌≤◌, ◌<◌}
 use mathlib.Core.Path.{◌≡◌, refl, sym, ap, ◌∙◌}
-use mathlib.Core.Logic.{◌≢◌}
 use mathlib.Core.Bool.{Bool, true, false, not, ◌&&◌, ◌||◌}
 use mathlib.Core.List.{List, [], ◌∷◌, ◌++◌}
 use native.Mathlib.Numerals.{add-one}
 use native.Mathlib.Nat.{mul-one, mul_comm, mul-le-mul, suc-mul, le_refl}
 use native.Mathlib.Omega.{arith}
-use borrow.Author.Tests.{eq-eqb, ne_eqb, ltb-false}
+use borrow.Author.Tests.{ltb-false}
 use lib.Dec.{leb, ltb, eqb}
-use lib.ListN.{length, get_or, take, drop, length-append, drop_of_length-le}
-use lib.Seq.{drop-cons, get_or-take, length-take-le}
+use lib.ListN.{length, get_or, replicate, length-append, length-replicate}
 use Rattle.model.specs.Lists.{gathered}
 use Rattle.model.specs.Plot.{max_side, bad_side, bad_sides}
 use Rattle.model.specs.Head.{cells_of}
@@ -19,11 +21,10 @@ use Rattle.model.specs.declared.Head.{Head}
 use Rattle.model.specs.Record.{same}
 use Rattle.model.proofs.Lists.Bools.{or_false, not_leb}
 use Rattle.model.proofs.Lists.Gathered.{length_gathered}
-use Rattle.model.proofs.Record.RecordLaws.{same_true}
-use Rattle.printing.specs.Text.{line_feed, number, Put}
+use Rattle.printing.specs.Text.{line_feed, space, number, Put}
 use Rattle.printing.proofs.Appended.{put_nothing, put_then, put_as, put_long, number_few, number_kept}
-use Rattle.drawing.specs.Drawing.{cell_text, row_text, text}
-use Rattle.drawing.specs.Reading.{on_plot, longest_rows, Drawable, drawn_as}
+use Rattle.drawing.specs.Drawing.{character, cell_text, row_text, text}
+use Rattle.drawing.specs.Reading.{on_plot, drawn_as}
 
 -- Parts, one behind the other -----------------------------------------------------------------------------------------------------------
 
@@ -47,6 +48,15 @@ module _ (w : ℕ) (truth : List ℕ) (row : ℕ) where
   pub row_long : length (row_text w truth row) ≡ w + 1
   unfolding row_text
   row_long = length-append (gathered w (cell_text w truth row)) (line_feed ∷ []) ∙ ap (λ (k : ℕ). k + 1) (cells_long w)
+
+  -- the row's part of the true ground
+  module _ (holds : row * w + w ≤ length truth) where
+    pub part_long : length (between (row * w) (row * w + w) truth) ≡ w
+    part_long = length-between truth (row * w) (row * w + w) holds ∙ omega arith
+
+    pub part_text : {v i : ℕ} → v ≡ character (get_or (between (row * w) (row * w + w) truth) i 0) → i < w → v ∷ [] ≡ cell_text w truth row i
+    part_text {v} {i} e inside =
+        ap (λ (k : ℕ). k ∷ []) (e ∙ ap character (get_or-between truth (row * w) (row * w + w) i 0 (omega arith)))
 
   module _ {at : ℕ} {l₀ : List ℕ} (room : at + w < length l₀) where
     pub cell_room : (i : ℕ) {m : ℕ} {l : List ℕ} → i ≤ w → Put at (gathered i (cell_text w truth row)) l₀ m l → m < length l
@@ -82,11 +92,6 @@ module _ (w : ℕ) (truth : List ℕ) where
         → Put at (gathered (i + 1) (row_text w truth)) l₀ next l'
     row_next i inside p q = gather_next (row_text w truth) i p q (omega (arith, rows_long i, rows_within (w + 1) inside))
 
-    pub rows_kept : (i : ℕ) {m : ℕ} {l : List ℕ} → i ≡ h → Put at (gathered i (row_text w truth)) l₀ m l → length l ≡ length l₀
-    rows_kept i e p =
-        let same : i * (w + 1) ≡ h * (w + 1) = ap (λ (k : ℕ). k * (w + 1)) e in
-        put_long p (omega (arith, rows_long i, same, room))
-
 -- The first line -----------------------------------------------------------------------------------------------------------------------
 
 -- numbers from the front of l on: so many bytes at most, and as many in all as before
@@ -95,10 +100,10 @@ pub record Lined (text l : List ℕ) (most m : ℕ) (l' : List ℕ) : Type 0 whe
   pub few : m ≤ most
   pub long : length l' ≡ length l
 
-pub line_begin : (n end : ℕ) {l : List ℕ} {m : ℕ} {l' : List ℕ} → 20 < length l → Put 0 (number n end) l m l' → Lined (number n end) l 21 m l'
+line_begin : (n end : ℕ) {l : List ℕ} {m : ℕ} {l' : List ℕ} → 20 < length l → Put 0 (number n end) l m l' → Lined (number n end) l 21 m l'
 line_begin n end room p = record { pen = p; few = number_few n end p; long = number_kept n end p room }
 
-pub line_more : (n end : ℕ) {text l : List ℕ} {most m next : ℕ} {l' l'' : List ℕ} → Lined text l most m l' → most + 20 < length l
+line_more : (n end : ℕ) {text l : List ℕ} {most m next : ℕ} {l' l'' : List ℕ} → Lined text l most m l' → most + 20 < length l
     → Put m (number n end) l' next l''
     → Lined (text ++ number n end) l (most + 21) next l''
 line_more n end {text} {l} {most} {m} a room p =
@@ -109,8 +114,22 @@ line_more n end {text} {l} {most} {m} a room p =
       long = kept ∙ a.long;
     }
 
+-- the rows of the largest plot, each with a line feed
+abbrev pub longest_rows : ℕ
+longest_rows = max_side * (max_side + 1)
+
+-- there is room for the text of a drawing of good sides (four numbers of at most 21 bytes, and its rows), and truth has all cells
+pub record Drawable (head : Head) (truth out : List ℕ) : Type 0 where
+  pub sides : bad_sides head.width head.height ≡ false
+  pub truths : cells_of head ≤ length truth
+  pub room : 4 * 21 + longest_rows ≤ length out
+
+pub roomy : (head : Head) {truth : List ℕ} → bad_sides head.width head.height ≡ false → cells_of head ≤ length truth
+    → Drawable head truth (replicate (4 * 21 + longest_rows) 0)
+roomy head s t = record { sides = s; truths = t; room = omega (arith, length-replicate {A = ℕ} (4 * 21 + longest_rows) 0) }
+
 module _ (head : Head) (truth : List ℕ) {out : List ℕ} (d : Drawable head truth out) where
-  pub rows_few : head.height * (head.width + 1) ≤ longest_rows
+  rows_few : head.height * (head.width + 1) ≤ longest_rows
   unfolding bad_sides
   rows_few =
       let t = or_false (bad_side head.width) (bad_side head.height) d.sides in
@@ -122,59 +141,49 @@ module _ (head : Head) (truth : List ℕ) {out : List ℕ} (d : Drawable head tr
   pub truth_room : head.height * head.width ≤ length truth
   truth_room = rw (mul_comm head.width head.height) at d.truths
 
-  pub text_done : {m next : ℕ} {l l' : List ℕ}
-      → Lined (number head.width 32 ++ number head.height 32 ++ number head.cell 32 ++ number head.goal 10) out (4 * 21) m l
-      → Put m (gathered head.height (row_text head.width truth)) l next l' → Put 0 (text (drawn_as head truth)) out next l'
-  unfolding text
-  text_done a p = put_then a.pen p (omega (arith, a.pen.behind, a.few, d.room))
+  -- behind each number of the first line there is room for the next, and behind the last for the rows
+  module _ {m₁ : ℕ} {l₁ : List ℕ} (p : Put 0 (number head.width space) out m₁ l₁) where
+    wide : Lined (number head.width space) out 21 m₁ l₁
+    wide = line_begin head.width space (omega (arith, d.room)) p
+
+    pub height_room : m₁ + 20 < length l₁
+    height_room = omega (arith, d.room, wide.few, wide.long)
+
+    module _ {m₂ : ℕ} {l₂ : List ℕ} (q : Put m₁ (number head.height space) l₁ m₂ l₂) where
+      high : Lined (number head.width space ++ number head.height space) out (21 + 21) m₂ l₂
+      high = line_more head.height space wide (omega (arith, d.room)) q
+
+      pub start_room : m₂ + 20 < length l₂
+      start_room = omega (arith, d.room, high.few, high.long)
+
+      module _ {m₃ : ℕ} {l₃ : List ℕ} (r : Put m₂ (number head.cell space) l₂ m₃ l₃) where
+        started : Lined (number head.width space ++ number head.height space ++ number head.cell space) out (21 + 21 + 21) m₃ l₃
+        started = line_more head.cell space high (omega (arith, d.room)) r
+
+        pub goal_room : m₃ + 20 < length l₃
+        goal_room = omega (arith, d.room, started.few, started.long)
+
+        module _ {m₄ : ℕ} {l₄ : List ℕ} (t : Put m₃ (number head.goal line_feed) l₃ m₄ l₄) where
+          line : Lined (number head.width space ++ number head.height space ++ number head.cell space ++ number head.goal line_feed) out (4 * 21) m₄ l₄
+          line = line_more head.goal line_feed started (omega (arith, d.room)) t
+
+          pub rows_room : m₄ + head.height * (head.width + 1) ≤ length l₄
+          rows_room = omega (arith, d.room, line.few, line.long, rows_few)
+
+          pub text_done : {next : ℕ} {l' : List ℕ} → Put m₄ (gathered head.height (row_text head.width truth)) l₄ next l'
+              → Put 0 (text (drawn_as head truth)) out next l'
+          unfolding text
+          text_done u = put_then line.pen u (omega (arith, line.pen.behind, line.few, d.room))
 
 -- Comparing ----------------------------------------------------------------------------------------------------------------------------
 
--- the first i are alike: the rest decides
-pub record Alike (bytes text : List ℕ) (n i : ℕ) : Type 0 where
-  pub is : same bytes (take n text) ≡ same (drop i bytes) (drop i (take n text))
-  pub long : length bytes ≡ n
-  pub within : i ≤ n
-
-module _ (bytes text : List ℕ) (n : ℕ) (room : n ≤ length text) where
-  pub unlike : length bytes ≢ n → false ≡ same bytes (take n text)
-  unlike f = go (same bytes (take n text)) refl
-    where
-      go : (b : Bool) → same bytes (take n text) ≡ b → false ≡ b
-      go true e = absurd (f (ap length (same_true bytes (take n text) e) ∙ length-take-le n text room))
-      go false e = refl
-
-  pub alike_begin : length bytes ≡ n → Alike bytes text n 0
-  alike_begin e = record { is = refl; long = e; within = omega arith }
-
-  module _ (i : ℕ) (inside : i < n) (a : Alike bytes text n i) where
-    first : drop i bytes ≡ get_or bytes i 0 ∷ drop (i + 1) bytes
-    first = drop-cons bytes i 0 (omega (arith, a.long)) ∙ ap (λ (k : ℕ). get_or bytes i 0 ∷ drop k bytes) (sym (add-one i))
-
-    second : drop i (take n text) ≡ get_or text i 0 ∷ drop (i + 1) (take n text)
-    second =
-        drop-cons (take n text) i 0 (omega (arith, length-take-le n text room))
-        ∙ ap (λ (v : ℕ). v ∷ drop (suc i) (take n text)) (get_or-take n text i 0 inside)
-        ∙ ap (λ (k : ℕ). get_or text i 0 ∷ drop k (take n text)) (sym (add-one i))
-
-    both : same bytes (take n text) ≡ (eqb (get_or bytes i 0) (get_or text i 0) && same (drop (i + 1) bytes) (drop (i + 1) (take n text)))
-    unfolding same
-    both = a.is ∙ rw (first, second, same) refl
-
-    pub alike_next : get_or bytes i 0 ≡ get_or text i 0 → Alike bytes text n (i + 1)
-    alike_next e = record { is = both ∙ rw (eq-eqb (get_or bytes i 0) (get_or text i 0) e) refl; long = a.long; within = omega arith }
-
-    pub alike_not : get_or bytes i 0 ≢ get_or text i 0 → false ≡ same bytes (take n text)
-    alike_not f = sym (both ∙ rw (ne_eqb (get_or bytes i 0) (get_or text i 0) f) refl)
-
-  pub alike_end : (i : ℕ) → n ≤ i → Alike bytes text n i → true ≡ same bytes (take n text)
-  unfolding same
-  alike_end i over a =
-      sym (a.is ∙ rw (
-        drop_of_length-le bytes {i = i} (omega (arith, a.long)),
-        drop_of_length-le (take n text) {i = i} (omega (arith, length-take-le n text room)),
-        same,
-      ) refl)
+-- as slices are compared
+pub compared : (a b : List ℕ) → pointwise nat_eq a b ≡ same a b
+unfolding same
+compared [] [] = refl
+compared [] (y ∷ ys) = refl
+compared (x ∷ xs) [] = refl
+compared (x ∷ xs) (y ∷ ys) = ap (λ (b : Bool). eqb x y && b) (compared xs ys)
 
 -- A plot with its cells ----------------------------------------------------------------------------------------------------------------
 

@@ -1,5 +1,6 @@
 -- The tests of a call say what `Held` says: accepted data are placed, have room and fit.
 -- Assumes nothing.
+use Rattle.std.specs.Prelude.{Ok, Err}
 use mathlib.Core.Path.{◌≡◌, refl}
 use mathlib.Core.Bool.{Bool, true, false, not}
 use mathlib.Core.List.{List, [], ◌∷◌}
@@ -17,8 +18,7 @@ use Rattle.model.specs.Refusals.{refuse_if, and_then, too_short, any_short, any_
 use Rattle.model.specs.Ways.{Accepts}
 use Rattle.model.specs.declared.Head.{Head}
 use Rattle.model.specs.declared.Reason.{Reason}
-use Rattle.model.specs.declared.Verdict.{Verdict}
-use Rattle.model.specs.declared.Verdict.TheVariants.{Accepted, Refused}
+use Rattle.model.specs.Verdict.{Verdict}
 use Rattle.model.proofs.Lists.Bools.{or_false}
 use Rattle.model.specs.Fit.{Room, Placed, Held}
 use Rattle.model.proofs.Calls.Soundness.{sound_fit, fit_sound}
@@ -26,16 +26,16 @@ use Rattle.model.proofs.Calls.Soundness.{sound_fit, fit_sound}
 -- One test after another --------------------------------------------------------------------------------------------------------
 
 -- no verdict is both
-pub not_both : {v : Verdict} {why : Reason} → v ≡ Refused why → v ≡ Accepted → ⊥
+pub not_both : {v : Verdict} {why : Reason} → v ≡ Err why → v ≡ Ok tt → ⊥
 not_both {v} e f = let z : ◌≡◌ {A = ℕ} 0 1 = cc in omega arith
 
-pub passed : (b : Bool) (why : Reason) (next : Verdict) → refuse_if b why next ≡ Accepted → (b ≡ false) × (next ≡ Accepted)
+pub passed : (b : Bool) (why : Reason) (next : Verdict) → refuse_if b why next ≡ Ok tt → (b ≡ false) × (next ≡ Ok tt)
 passed true why next e = absurd (not_both refl e)
 passed false why next e = (refl, e)
 
-pub both_passed : (v next : Verdict) → and_then v next ≡ Accepted → (v ≡ Accepted) × (next ≡ Accepted)
-both_passed Accepted next e = (refl, e)
-both_passed (Refused why) next e = absurd (not_both refl e)
+pub both_passed : (v next : Verdict) → and_then v next ≡ Ok tt → (v ≡ Ok tt) × (next ≡ Ok tt)
+both_passed (Ok _) next e = (refl, e)
+both_passed (Err why) next e = absurd (not_both refl e)
 
 -- Sides -------------------------------------------------------------------------------------------------------------------------
 
@@ -98,7 +98,7 @@ module _ (w h goal cell : ℕ) where
 -- The verdicts ------------------------------------------------------------------------------------------------------------------
 
 module _ (w h : ℕ) (buffers : List (List ℕ)) (named : List ℕ) where
-  pub fits_passed : fits w h buffers named ≡ Accepted → (bad_sides w h ≡ false) × (any_short (cells w h) buffers ≡ false)
+  pub fits_passed : fits w h buffers named ≡ Ok tt → (bad_sides w h ≡ false) × (any_short (cells w h) buffers ≡ false)
       × (any_outside (cells w h) named ≡ false)
   unfolding fits
   fits_passed e =
@@ -107,18 +107,18 @@ module _ (w h : ℕ) (buffers : List (List ℕ)) (named : List ℕ) where
       (a.0, b.0, (passed (any_outside (cells w h) named) _ _ b.1).0)
 
   pub fits_all : bad_sides w h ≡ false → any_short (cells w h) buffers ≡ false → any_outside (cells w h) named ≡ false
-      → fits w h buffers named ≡ Accepted
+      → fits w h buffers named ≡ Ok tt
   unfolding fits
   fits_all s r o = rw (s, r, o)
 
 module _ (head : Head) (p : Lent) (buffers : List (List ℕ)) (named : List ℕ) where
-  pub check_passed : check head p buffers named ≡ Accepted → (fits head.width head.height buffers named ≡ Accepted) × (sound head p ≡ true)
+  pub check_passed : check head p buffers named ≡ Ok tt → (fits head.width head.height buffers named ≡ Ok tt) × (sound head p ≡ true)
   unfolding check
   check_passed e =
       let t = both_passed (fits head.width head.height buffers named) _ e in
       (t.0, not-false (sound head p) (passed (not (sound head p)) _ _ t.1).0)
 
-  pub check_all : fits head.width head.height buffers named ≡ Accepted → sound head p ≡ true → check head p buffers named ≡ Accepted
+  pub check_all : fits head.width head.height buffers named ≡ Ok tt → sound head p ≡ true → check head p buffers named ≡ Ok tt
   unfolding check
   check_all f s = rw (f, s)
 

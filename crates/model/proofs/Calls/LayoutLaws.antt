@@ -1,5 +1,6 @@
 -- Layout: what it leaves is as document 01 says, and accepted.
 -- Assumes nothing.
+use Rattle.std.specs.Prelude.{Ok, Err}
 use mathlib.Core.Path.{◌≡◌, refl, ◌∙◌}
 use mathlib.Core.List.{[], ◌∷◌}
 use Prim.Native.Nat.{ℕ, ◌<◌}
@@ -15,8 +16,7 @@ use Rattle.model.specs.Head.{head_at, no_head}
 use Rattle.model.specs.Layout.{layout_check, fresh, laid_out}
 use Rattle.model.specs.Ways.{Adj, Accepts}
 use Rattle.model.specs.declared.Reason.{Reason}
-use Rattle.model.specs.declared.Verdict.{Verdict}
-use Rattle.model.specs.declared.Verdict.TheVariants.{Accepted, Refused}
+use Rattle.model.specs.Verdict.{Verdict}
 use Rattle.model.specs.declared.Changed.{Changed}
 use Rattle.model.proofs.Lists.Filled.{length_filled, filled_at}
 use Rattle.model.proofs.Grid.Geometry.{leg_stepped, leg_inside}
@@ -28,12 +28,12 @@ use Rattle.model.proofs.Grid.Manhattan.{step_near, distance_below, distance_self
 module _ (w h start goal : ℕ) (p : Lent) where
   -- what layout answers and leaves, in its two cases
   pub data LayingOut : After Changed → Type 0 where
-    layout_refused : {why : Reason} → layout_check w h start goal p ≡ Refused why
-        → LayingOut (record { answer = changed no_head (Refused why); lists = p })
+    layout_refused : {why : Reason} → layout_check w h start goal p ≡ Err why
+        → LayingOut (record { answer = changed no_head (Err why); lists = p })
     layout_laid : Placed w h goal start → Room (cells w h) p
-        → LayingOut (record { answer = changed (head_at w h goal start) Accepted; lists = fresh w h goal p })
+        → LayingOut (record { answer = changed (head_at w h goal start) (Ok tt); lists = fresh w h goal p })
 
-  pub layout_passed : layout_check w h start goal p ≡ Accepted → Placed w h goal start × Room (cells w h) p
+  pub layout_passed : layout_check w h start goal p ≡ Ok tt → Placed w h goal start × Room (cells w h) p
   unfolding layout_check
   layout_passed e =
       let f = fits_passed w h (buffers_of p) (goal ∷ start ∷ []) e in
@@ -45,11 +45,11 @@ module _ (w h start goal : ℕ) (p : Lent) where
   layout_is = go _ refl
     where
       go : (v : Verdict) → layout_check w h start goal p ≡ v → LayingOut (elim v [
-        | Accepted ↦ record { answer = changed (head_at w h goal start) Accepted; lists = fresh w h goal p }
-        | Refused why ↦ record { answer = changed no_head (Refused why); lists = p }
+        | Ok _ ↦ record { answer = changed (head_at w h goal start) (Ok tt); lists = fresh w h goal p }
+        | Err why ↦ record { answer = changed no_head (Err why); lists = p }
       ])
-      go Accepted e = let a = layout_passed e in layout_laid a.0 a.1
-      go (Refused why) e = layout_refused e
+      go (Ok _) e = let a = layout_passed e in layout_laid a.0 a.1
+      go (Err why) e = layout_refused e
 
   -- Fresh data --------------------------------------------------------------------------------------------------------------------
 
@@ -85,11 +85,11 @@ module _ (w h start goal : ℕ) (p : Lent) where
       };
     }
 
-  laid_held : {r : After Changed} → LayingOut r → r.answer.verdict ≡ Accepted → Held r.answer.head r.lists
+  laid_held : {r : After Changed} → LayingOut r → r.answer.verdict ≡ Ok tt → Held r.answer.head r.lists
   laid_held (layout_refused e) q = absurd (not_both refl q)
   laid_held (layout_laid r m) q = fresh_held r m
 
   -- A FRESH LAYOUT IS SOUND.
-  pub fresh_is_accepted : (laid_out w h start goal p).answer.verdict ≡ Accepted
+  pub fresh_is_accepted : (laid_out w h start goal p).answer.verdict ≡ Ok tt
       → Accepts (laid_out w h start goal p).answer.head (laid_out w h start goal p).lists
   fresh_is_accepted q = held_accepts _ _ (laid_held layout_is q)

@@ -1,5 +1,6 @@
 -- List: its front is the route, from the cart's cell to the goal, one cell more than its steps, and never empty.
 -- Assumes nothing.
+use Rattle.std.specs.Prelude.{Ok, Err}
 use mathlib.Core.Path.{◌≡◌, refl}
 use mathlib.Core.Logic.{◌↔◌}
 use mathlib.Core.Bool.{true, not}
@@ -17,8 +18,7 @@ use Rattle.model.specs.Listing.{AfterList, list_check, listed, list_question}
 use Rattle.model.specs.declared.Head.{Head}
 use Rattle.model.specs.declared.Reason.{Reason}
 use Rattle.model.specs.declared.Reason.TheVariants.{Short, NoRoute}
-use Rattle.model.specs.declared.Verdict.{Verdict}
-use Rattle.model.specs.declared.Verdict.TheVariants.{Accepted, Refused}
+use Rattle.model.specs.Verdict.{Verdict}
 use Rattle.model.specs.Fit.{Held}
 use Rattle.model.proofs.Calls.Acceptance.{not_both, passed, both_passed, accepts_held}
 use Rattle.model.proofs.Lists.Fronted.{fronted_front, fronted_long, fronted_rest}
@@ -55,15 +55,15 @@ cells_last {w} {h} p (follow k e r) = rw k.lands (cells_last p r)
 module _ (head : Head) (p : Lent) (buffer : List ℕ) where
   -- what list hands back and leaves, in its two cases
   pub data ListingOf : AfterList → Type 0 where
-    list_refused : {why : Reason} → list_check head p buffer ≡ Refused why → ListingOf (record { front = []; buffer = buffer })
-    list_written : list_check head p buffer ≡ Accepted → Held head p → stands head p ≡ true → length (route head p) ≤ length buffer
+    list_refused : {why : Reason} → list_check head p buffer ≡ Err why → ListingOf (record { front = []; buffer = buffer })
+    list_written : list_check head p buffer ≡ Ok tt → Held head p → stands head p ≡ true → length (route head p) ≤ length buffer
         → ListingOf (record { front = route head p; buffer = fronted (route head p) buffer })
 
-  list_passed : list_check head p buffer ≡ Accepted → Held head p × (stands head p ≡ true) × (length (route head p) ≤ length buffer)
+  list_passed : list_check head p buffer ≡ Ok tt → Held head p × (stands head p ≡ true) × (length (route head p) ≤ length buffer)
   unfolding list_check
   list_passed e =
       let a =
-      both_passed (acceptance head p) (refuse_if (not (stands head p)) NoRoute (refuse_if (too_short (length (route head p)) buffer) Short Accepted))
+      both_passed (acceptance head p) (refuse_if (not (stands head p)) NoRoute (refuse_if (too_short (length (route head p)) buffer) Short (Ok tt)))
       e in
       let b = passed (not (stands head p)) _ _ a.1 in
       let c = passed (too_short (length (route head p)) buffer) _ _ b.1 in
@@ -74,11 +74,11 @@ module _ (head : Head) (p : Lent) (buffer : List ℕ) where
   list_is = go _ refl
     where
       go : (v : Verdict) → list_check head p buffer ≡ v → ListingOf (elim v [
-        | Accepted ↦ record { front = route head p; buffer = fronted (route head p) buffer }
-        | Refused why ↦ record { front = []; buffer = buffer }
+        | Ok _ ↦ record { front = route head p; buffer = fronted (route head p) buffer }
+        | Err why ↦ record { front = []; buffer = buffer }
       ])
-      go Accepted e = let a = list_passed e in list_written e a.0 a.1 a.2
-      go (Refused why) e = list_refused e
+      go (Ok _) e = let a = list_passed e in list_written e a.0 a.1 a.2
+      go (Err why) e = list_refused e
 
   -- what is written where the check accepts
   pub record ListAccepted (r : AfterList) : Type 0 where
@@ -108,34 +108,34 @@ module _ (head : Head) (p : Lent) (buffer : List ℕ) where
     same_length = fronted_long (route head p) buffer fits;
   }
 
-  writes : {r : AfterList} → ListingOf r → list_check head p buffer ≡ Accepted → ListAccepted r
+  writes : {r : AfterList} → ListingOf r → list_check head p buffer ≡ Ok tt → ListAccepted r
   writes (list_refused e) ok = absurd (not_both e ok)
   writes (list_written ok a t fits) _ = written a t fits
 
   -- WHERE A ROUTE STANDS and the buffer has room, its cells are written.
-  pub list_writes : list_check head p buffer ≡ Accepted → ListAccepted (listed head p buffer)
+  pub list_writes : list_check head p buffer ≡ Ok tt → ListAccepted (listed head p buffer)
   list_writes = writes list_is
 
-  leaves : {r : AfterList} {why : Reason} → ListingOf r → list_check head p buffer ≡ Refused why → (r.front ≡ []) × (r.buffer ≡ buffer)
+  leaves : {r : AfterList} {why : Reason} → ListingOf r → list_check head p buffer ≡ Err why → (r.front ≡ []) × (r.buffer ≡ buffer)
   leaves (list_refused _) e = (refl, refl)
   leaves (list_written ok a t fits) e = absurd (not_both e ok)
 
   -- REFUSED: the empty front, nothing written.
-  pub list_leaves : {why : Reason} → list_check head p buffer ≡ Refused why → ((listed head p buffer).front ≡ [])
+  pub list_leaves : {why : Reason} → list_check head p buffer ≡ Err why → ((listed head p buffer).front ≡ [])
       × ((listed head p buffer).buffer ≡ buffer)
   list_leaves = leaves list_is
 
   -- THE QUESTION gives 0 exactly where list writes.
-  question_accepted : (v : Verdict) → (verdict_number v ≡ 0) ↔ (v ≡ Accepted)
-  question_accepted Accepted = (λ _. refl, λ _. refl)
-  question_accepted (Refused Reason.Sides) = (λ e. absurd (omega arith), λ e. absurd (not_both refl e))
-  question_accepted (Refused Reason.Short) = (λ e. absurd (omega arith), λ e. absurd (not_both refl e))
-  question_accepted (Refused Reason.Outside) = (λ e. absurd (omega arith), λ e. absurd (not_both refl e))
-  question_accepted (Refused Reason.Unsound) = (λ e. absurd (omega arith), λ e. absurd (not_both refl e))
-  question_accepted (Refused Reason.OwnCell) = (λ e. absurd (omega arith), λ e. absurd (not_both refl e))
-  question_accepted (Refused Reason.NoRoute) = (λ e. absurd (omega arith), λ e. absurd (not_both refl e))
-  question_accepted (Refused Reason.Form) = (λ e. absurd (omega arith), λ e. absurd (not_both refl e))
+  question_accepted : (v : Verdict) → (verdict_number v ≡ 0) ↔ (v ≡ Ok tt)
+  question_accepted (Ok _) = (λ _. refl, λ _. refl)
+  question_accepted (Err Reason.Sides) = (λ e. absurd (omega arith), λ e. absurd (not_both refl e))
+  question_accepted (Err Reason.Short) = (λ e. absurd (omega arith), λ e. absurd (not_both refl e))
+  question_accepted (Err Reason.Outside) = (λ e. absurd (omega arith), λ e. absurd (not_both refl e))
+  question_accepted (Err Reason.Unsound) = (λ e. absurd (omega arith), λ e. absurd (not_both refl e))
+  question_accepted (Err Reason.OwnCell) = (λ e. absurd (omega arith), λ e. absurd (not_both refl e))
+  question_accepted (Err Reason.NoRoute) = (λ e. absurd (omega arith), λ e. absurd (not_both refl e))
+  question_accepted (Err Reason.Form) = (λ e. absurd (omega arith), λ e. absurd (not_both refl e))
 
-  pub question_exactly : (list_question head p buffer ≡ 0) ↔ (list_check head p buffer ≡ Accepted)
+  pub question_exactly : (list_question head p buffer ≡ 0) ↔ (list_check head p buffer ≡ Ok tt)
   unfolding list_question
   question_exactly = question_accepted (list_check head p buffer)

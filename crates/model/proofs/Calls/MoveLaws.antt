@@ -1,5 +1,6 @@
 -- Move: the cart comes one step nearer, the rest of its route stands, and the data stay sound.
 -- Assumes nothing.
+use Rattle.std.specs.Prelude.{Ok, Err}
 use mathlib.Core.Path.{◌≡◌, refl, ◌∙◌}
 use mathlib.Core.Logic.{◌≢◌}
 use mathlib.Core.Bool.{Bool, true, false}
@@ -20,8 +21,7 @@ use Rattle.model.specs.Ways.{Accepts, Shortest}
 use Rattle.model.specs.declared.Head.{Head}
 use Rattle.model.specs.declared.Reason.{Reason}
 use Rattle.model.specs.declared.Reason.TheVariants.{NoRoute}
-use Rattle.model.specs.declared.Verdict.{Verdict}
-use Rattle.model.specs.declared.Verdict.TheVariants.{Accepted, Refused}
+use Rattle.model.specs.Verdict.{Verdict}
 use Rattle.model.specs.declared.Step.{Step}
 use Rattle.model.specs.declared.Moved.{Moved}
 use Rattle.model.proofs.Grid.Geometry.{leg_inside, leg_free}
@@ -33,39 +33,39 @@ use Rattle.model.proofs.Search.Trail.{relinked_at}
 
 -- What move answers and leaves, in its four cases.
 pub data Moving (head : Head) (p : Lent) : After Moved → Type 0 where
-  move_refused : {why : Reason} → acceptance head p ≡ Refused why → Moving head p (stepped head (Step.Refused why) p)
-  move_there : Held head p → head.cell ≡ head.goal → Moving head p (stepped head Step.Arrived p)
-  move_lost : Held head p → head.cell ≢ head.goal → stands head p ≡ false → Moving head p (stepped head (Step.Refused NoRoute) p)
+  move_refused : {why : Reason} → acceptance head p ≡ Err why → Moving head p (stepped head (Err why) p)
+  move_there : Held head p → head.cell ≡ head.goal → Moving head p (stepped head (Ok Step.Arrived) p)
+  move_lost : Held head p → head.cell ≢ head.goal → stands head p ≡ false → Moving head p (stepped head (Err NoRoute) p)
   move_went : Held head p → head.cell ≢ head.goal → stands head p ≡ true
-      → Moving head p (stepped (head_onward head p) Step.Moved (lists_onward head p))
+      → Moving head p (stepped (head_onward head p) (Ok Step.Moved) (lists_onward head p))
 
 pub move_is : (head : Head) (p : Lent) → Moving head p (moved head p)
 unfolding moved
 move_is head p = go _ refl
   where
     go : (v : Verdict) → acceptance head p ≡ v → Moving head p (elim v [
-      | Accepted ↦ elim (eqb head.cell head.goal) [
-        | true ↦ stepped head Step.Arrived p
+      | Ok _ ↦ elim (eqb head.cell head.goal) [
+        | true ↦ stepped head (Ok Step.Arrived) p
         | false ↦ elim (stands head p) [
-          | true ↦ stepped (head_onward head p) Step.Moved (lists_onward head p)
-          | false ↦ stepped head (Step.Refused NoRoute) p
+          | true ↦ stepped (head_onward head p) (Ok Step.Moved) (lists_onward head p)
+          | false ↦ stepped head (Err NoRoute) p
         ]
       ]
-      | Refused why ↦ stepped head (Step.Refused why) p
+      | Err why ↦ stepped head (Err why) p
     ])
-    go Accepted e = on _ _ refl refl
+    go (Ok _) e = on _ _ refl refl
       where
         on : (b c : Bool) → eqb head.cell head.goal ≡ b → stands head p ≡ c → Moving head p (elim b [
-          | true ↦ stepped head Step.Arrived p
+          | true ↦ stepped head (Ok Step.Arrived) p
           | false ↦ elim c [
-            | true ↦ stepped (head_onward head p) Step.Moved (lists_onward head p)
-            | false ↦ stepped head (Step.Refused NoRoute) p
+            | true ↦ stepped (head_onward head p) (Ok Step.Moved) (lists_onward head p)
+            | false ↦ stepped head (Err NoRoute) p
           ]
         ])
         on true c q r = move_there (accepts_held head p e) (eqb-true _ _ q)
         on false true q r = move_went (accepts_held head p e) (eqb-false _ _ q) r
         on false false q r = move_lost (accepts_held head p e) (eqb-false _ _ q) r
-    go (Refused why) e = move_refused e
+    go (Err why) e = move_refused e
 
 -- A step along a standing route.
 module _ (head : Head) (p : Lent) (a : Held head p) (d : head.cell ≢ head.goal) (t : stands head p ≡ true) where
@@ -154,7 +154,7 @@ pub record MoveKeeps (head : Head) (p : Lent) (r : After Moved) : Type 0 where
   pub held : Held head p → Held r.answer.head r.lists
 
 module _ (head : Head) (p : Lent) where
-  nearer : {r : After Moved} → Moving head p r → r.answer.step ≡ Step.Moved → Nearer head p r
+  nearer : {r : After Moved} → Moving head p r → r.answer.step ≡ Ok Step.Moved → Nearer head p r
   nearer (move_refused e) q = let z : ◌≡◌ {A = ℕ} 0 1 = cc in absurd (omega arith)
   nearer (move_there a e) q = let z : ◌≡◌ {A = ℕ} 0 1 = cc in absurd (omega arith)
   nearer (move_lost a d t) q = let z : ◌≡◌ {A = ℕ} 0 1 = cc in absurd (omega arith)
@@ -166,7 +166,7 @@ module _ (head : Head) (p : Lent) where
   }
 
   -- EACH MOVE brings the cart one step nearer.
-  pub move_comes_nearer : (moved head p).answer.step ≡ Step.Moved → Nearer head p (moved head p)
+  pub move_comes_nearer : (moved head p).answer.step ≡ Ok Step.Moved → Nearer head p (moved head p)
   move_comes_nearer = nearer (move_is head p)
 
   keeps : {r : After Moved} → Moving head p r → MoveKeeps head p r
@@ -178,12 +178,12 @@ module _ (head : Head) (p : Lent) where
   pub move_keeps : MoveKeeps head p (moved head p)
   move_keeps = keeps (move_is head p)
 
-  must_move : {r : After Moved} → Moving head p r → Held head p → stands head p ≡ true → head.cell ≢ head.goal → r.answer.step ≡ Step.Moved
+  must_move : {r : After Moved} → Moving head p r → Held head p → stands head p ≡ true → head.cell ≢ head.goal → r.answer.step ≡ Ok Step.Moved
   must_move (move_refused e) a t d = absurd (not_both e (held_accepts head p a))
   must_move (move_there _ e) a t d = absurd (d e)
   must_move (move_lost _ _ u) a t d = let z : ◌≡◌ {A = Bool} true false = cc in let k : ◌≡◌ {A = ℕ} 0 1 = cc in absurd (omega arith)
   must_move (move_went _ _ _) a t d = refl
 
   -- Where a route stands short of the goal, the cart moves.
-  pub standing_route_moves : Accepts head p → stands head p ≡ true → head.cell ≢ head.goal → (moved head p).answer.step ≡ Step.Moved
+  pub standing_route_moves : Accepts head p → stands head p ≡ true → head.cell ≢ head.goal → (moved head p).answer.step ≡ Ok Step.Moved
   standing_route_moves e t d = must_move (move_is head p) (accepts_held head p e) t d

@@ -1,5 +1,6 @@
 -- Plan's answer is true, and a true answer is the one given.
 -- Assumes nothing.
+use Rattle.std.specs.Prelude.{Ok, Err}
 use mathlib.Core.Path.{◌≡◌, refl, ap}
 use mathlib.Core.Logic.{◌≢◌, ◌↔◌}
 use Prim.Native.Nat.{ℕ}
@@ -10,7 +11,6 @@ use Rattle.model.specs.Plan.{AfterPlan, plan_check, planned}
 use Rattle.model.specs.Ways.{HasWay, Shortest}
 use Rattle.model.specs.declared.Head.{Head}
 use Rattle.model.specs.declared.Reason.{Reason}
-use Rattle.model.specs.declared.Verdict.TheVariants.{Accepted, Refused}
 use Rattle.model.specs.declared.Outcome.{Outcome}
 use Rattle.model.proofs.Calls.Acceptance.{not_both}
 use Rattle.model.proofs.Search.Lessons.{stopped_fewest, emptied_none}
@@ -18,10 +18,10 @@ use Rattle.model.proofs.Calls.PlanCases.{Planning, plan_refused, plan_there, pla
 
 -- what an answer says of the data
 abbrev pub Says : Head → Lent → Scratch → Outcome → Type 0
-Says head p s (Outcome.Route L) = (plan_check head p s ≡ Accepted) × (head.cell ≢ head.goal) × Shortest head p head.cell L
-Says head p s Outcome.NoWay = (plan_check head p s ≡ Accepted) × ((n : ℕ) → ¬ HasWay head p head.cell n)
-Says head p s Outcome.Arrived = (plan_check head p s ≡ Accepted) × (head.cell ≡ head.goal)
-Says head p s (Outcome.Refused why) = plan_check head p s ≡ Refused why
+Says head p s (Outcome.Route L) = (plan_check head p s ≡ Ok tt) × (head.cell ≢ head.goal) × Shortest head p head.cell L
+Says head p s Outcome.NoWay = (plan_check head p s ≡ Ok tt) × ((n : ℕ) → ¬ HasWay head p head.cell n)
+Says head p s Outcome.Arrived = (plan_check head p s ≡ Ok tt) × (head.cell ≡ head.goal)
+Says head p s (Outcome.Refused why) = plan_check head p s ≡ Err why
 
 module _ (head : Head) (p : Lent) (s : Scratch) where
   says : {r : AfterPlan} → Planning head p s r → Says head p s r.answer.outcome
@@ -59,18 +59,18 @@ module _ (head : Head) (p : Lent) (s : Scratch) where
   answer_says o e = rw e at plan_is_true
 
   -- On accepted data short of the goal, ROUTE L is answered exactly when L is the fewest steps, ..
-  pub route_exactly : plan_check head p s ≡ Accepted → head.cell ≢ head.goal → (L : ℕ) → ((planned head p s).answer.outcome ≡ Outcome.Route L)
+  pub route_exactly : plan_check head p s ≡ Ok tt → head.cell ≢ head.goal → (L : ℕ) → ((planned head p s).answer.outcome ≡ Outcome.Route L)
       ↔ Shortest head p head.cell L
   route_exactly ok d L = (λ e. (answer_says (Outcome.Route L) e).2, λ f. true_is_planned (Outcome.Route L) (ok, d, f))
 
   -- .. NO WAY exactly when there is none, ..
-  pub no_way_exactly : plan_check head p s ≡ Accepted → ((planned head p s).answer.outcome ≡ Outcome.NoWay)
+  pub no_way_exactly : plan_check head p s ≡ Ok tt → ((planned head p s).answer.outcome ≡ Outcome.NoWay)
       ↔ ((n : ℕ) → ¬ HasWay head p head.cell n)
   no_way_exactly ok = (λ e. (answer_says Outcome.NoWay e).1, λ f. true_is_planned Outcome.NoWay (ok, f))
 
   -- .. and ARRIVED exactly on the goal; a REFUSAL exactly when the tests say so.
-  pub arrived_exactly : plan_check head p s ≡ Accepted → ((planned head p s).answer.outcome ≡ Outcome.Arrived) ↔ (head.cell ≡ head.goal)
+  pub arrived_exactly : plan_check head p s ≡ Ok tt → ((planned head p s).answer.outcome ≡ Outcome.Arrived) ↔ (head.cell ≡ head.goal)
   arrived_exactly ok = (λ e. (answer_says Outcome.Arrived e).1, λ f. true_is_planned Outcome.Arrived (ok, f))
 
-  pub refused_exactly : (why : Reason) → ((planned head p s).answer.outcome ≡ Outcome.Refused why) ↔ (plan_check head p s ≡ Refused why)
+  pub refused_exactly : (why : Reason) → ((planned head p s).answer.outcome ≡ Outcome.Refused why) ↔ (plan_check head p s ≡ Err why)
   refused_exactly why = (answer_says (Outcome.Refused why), true_is_planned (Outcome.Refused why))

@@ -1,5 +1,6 @@
 -- "entries beyond N are never touched", by a plan: neither in what is lent nor in scratch.
 -- Assumes nothing.
+use Rattle.std.specs.Prelude.{Ok, Err}
 use mathlib.Core.Path.{◌≡◌, refl}
 use mathlib.Core.Bool.{Bool, true, false, cond, ◌&&◌}
 use mathlib.Core.List.{List}
@@ -14,8 +15,7 @@ use Rattle.model.specs.Head.{cells_of}
 use Rattle.model.specs.Search.{begun, reached, looked, expanded, Ended, stopped_at, nothing_waits, out_of_iterations, first, run}
 use Rattle.model.specs.Plan.{AfterPlan, answered, plan_check, searched, relinked, improved, concluded, planned}
 use Rattle.model.specs.declared.Head.{Head}
-use Rattle.model.specs.declared.Verdict.{Verdict}
-use Rattle.model.specs.declared.Verdict.TheVariants.{Accepted, Refused}
+use Rattle.model.specs.Verdict.{Verdict}
 use Rattle.model.specs.declared.Outcome.{Outcome}
 use Rattle.model.proofs.Grid.Geometry.{allowed_on}
 use Rattle.model.proofs.Search.Order.{Best, best_is}
@@ -122,20 +122,20 @@ module _ (head : Head) (p : Lent) (s : Scratch) where
   unfolding planned searched
   plan_beyond = go _ refl
     where
-      searched_beyond : plan_check head p s ≡ Accepted → PlanBeyond head p s (concluded head p (searched head p s))
+      searched_beyond : plan_check head p s ≡ Ok tt → PlanBeyond head p s (concluded head p (searched head p s))
       searched_beyond e =
           concluded_beyond (searched head p s)
           (scratch_trans (begun_beyond (cells_of head) head.cell s (plan_passed head p s e).0.placed.cart_on)
           (run_beyond head.width head.height p _ (cells_of head) _))
 
       go : (v : Verdict) → plan_check head p s ≡ v → PlanBeyond head p s (elim v [
-        | Accepted ↦ elim (eqb head.cell head.goal) [
+        | Ok _ ↦ elim (eqb head.cell head.goal) [
           | true ↦ record { answer = answered head 0 Outcome.Arrived; lists = p; scratch = s }
           | false ↦ concluded head p (searched head p s)
         ]
-        | Refused why ↦ record { answer = answered head 0 (Outcome.Refused why); lists = p; scratch = s }
+        | Err why ↦ record { answer = answered head 0 (Outcome.Refused why); lists = p; scratch = s }
       ])
-      go Accepted e = on (eqb head.cell head.goal)
+      go (Ok _) e = on (eqb head.cell head.goal)
         where
           on : (b : Bool) → PlanBeyond head p s (elim b [
             | true ↦ record { answer = answered head 0 Outcome.Arrived; lists = p; scratch = s }
@@ -143,4 +143,4 @@ module _ (head : Head) (p : Lent) (s : Scratch) where
           ])
           on true = nothing _ refl refl
           on false = searched_beyond e
-      go (Refused why) e = nothing _ refl refl
+      go (Err why) e = nothing _ refl refl

@@ -1,5 +1,6 @@
 -- Plan as a call: its tests, and what it answers and leaves, in its four cases.
 -- Assumes nothing.
+use Rattle.std.specs.Prelude.{Ok, Err}
 use mathlib.Core.Path.{◌≡◌, refl}
 use mathlib.Core.Logic.{◌≢◌}
 use mathlib.Core.Bool.{Bool, true, false}
@@ -16,8 +17,7 @@ use Rattle.model.specs.Search.{Ended}
 use Rattle.model.specs.Plan.{AfterPlan, answered, plan_check, searched, found, lost, concluded, planned}
 use Rattle.model.specs.declared.Head.{Head}
 use Rattle.model.specs.declared.Reason.{Reason}
-use Rattle.model.specs.declared.Verdict.{Verdict}
-use Rattle.model.specs.declared.Verdict.TheVariants.{Accepted, Refused}
+use Rattle.model.specs.Verdict.{Verdict}
 use Rattle.model.specs.declared.Outcome.{Outcome}
 use Rattle.model.proofs.Lists.Bools.{or_false}
 use Rattle.model.specs.Fit.{Sized, Held}
@@ -30,7 +30,7 @@ use Rattle.model.proofs.Search.Lessons.{goal_halts}
 -- The tests -----------------------------------------------------------------------------------------------------------------------
 
 module _ (head : Head) (p : Lent) (s : Scratch) where
-  pub plan_passed : plan_check head p s ≡ Accepted → Held head p × Sized (cells_of head) s
+  pub plan_passed : plan_check head p s ≡ Ok tt → Held head p × Sized (cells_of head) s
   unfolding plan_check
   plan_passed e =
       let t = check_passed head p (scratch_buffers s ++ buffers_of p) (cells_named head) e in
@@ -47,7 +47,7 @@ module _ (head : Head) (p : Lent) (s : Scratch) where
         record { marks = ltb-false _ _ a.0; costs = ltb-false _ _ b.0; trails = ltb-false _ _ c.0 },
       )
 
-  pub pass_plan : Held head p → Sized (cells_of head) s → plan_check head p s ≡ Accepted
+  pub pass_plan : Held head p → Sized (cells_of head) s → plan_check head p s ≡ Ok tt
   unfolding plan_check
   pass_plan a z =
       check_all head p (scratch_buffers s ++ buffers_of p) (cells_named head)
@@ -68,19 +68,19 @@ module _ (head : Head) (p : Lent) (s : Scratch) where
 
 -- what plan answers and leaves
 pub data Planning (head : Head) (p : Lent) (s : Scratch) : AfterPlan → Type 0 where
-  plan_refused : {why : Reason} → plan_check head p s ≡ Refused why
+  plan_refused : {why : Reason} → plan_check head p s ≡ Err why
       → Planning head p s (record { answer = answered head 0 (Outcome.Refused why); lists = p; scratch = s })
-  plan_there : Held head p → plan_check head p s ≡ Accepted → head.cell ≡ head.goal
+  plan_there : Held head p → plan_check head p s ≡ Ok tt → head.cell ≡ head.goal
       → Planning head p s (record { answer = answered head 0 Outcome.Arrived; lists = p; scratch = s })
-  plan_none : {t : Scratch} → Held head p → plan_check head p s ≡ Accepted → head.cell ≢ head.goal
+  plan_none : {t : Scratch} → Held head p → plan_check head p s ≡ Ok tt → head.cell ≢ head.goal
       → Emptied head.width head.height head.cell p (leads_from head.width head.height head.goal p) t
       → Planning head p s (lost head p t)
-  plan_found : {c : ℕ} {t : Scratch} → Held head p → plan_check head p s ≡ Accepted → head.cell ≢ head.goal
+  plan_found : {c : ℕ} {t : Scratch} → Held head p → plan_check head p s ≡ Ok tt → head.cell ≢ head.goal
       → Stopped head.width head.height head.cell p (leads_from head.width head.height head.goal p) c t
       → Planning head p s (found head p c t)
 
 module _ (head : Head) (p : Lent) (s : Scratch) where
-  concluded_is : (e : Ended) → Held head p → plan_check head p s ≡ Accepted → head.cell ≢ head.goal
+  concluded_is : (e : Ended) → Held head p → plan_check head p s ≡ Ok tt → head.cell ≢ head.goal
       → Ends head.width head.height head.cell p (leads_from head.width head.height head.goal p) e
       → Planning head p s (concluded head p e)
   unfolding concluded
@@ -92,13 +92,13 @@ module _ (head : Head) (p : Lent) (s : Scratch) where
   plan_is = go _ refl
     where
       go : (v : Verdict) → plan_check head p s ≡ v → Planning head p s (elim v [
-        | Accepted ↦ elim (eqb head.cell head.goal) [
+        | Ok _ ↦ elim (eqb head.cell head.goal) [
           | true ↦ record { answer = answered head 0 Outcome.Arrived; lists = p; scratch = s }
           | false ↦ concluded head p (searched head p s)
         ]
-        | Refused why ↦ record { answer = answered head 0 (Outcome.Refused why); lists = p; scratch = s }
+        | Err why ↦ record { answer = answered head 0 (Outcome.Refused why); lists = p; scratch = s }
       ])
-      go Accepted e = on _ refl
+      go (Ok _) e = on _ refl
         where
           a : Held head p × Sized (cells_of head) s
           a = plan_passed head p s e
@@ -111,4 +111,4 @@ module _ (head : Head) (p : Lent) (s : Scratch) where
           on false q =
               concluded_is (searched head p s) a.0 e (eqb-false _ _ q)
               (search_ends p _ a.0.placed a.0.fit (goal_halts head.width head.height head.goal p) s a.1)
-      go (Refused why) e = plan_refused e
+      go (Err why) e = plan_refused e

@@ -1,5 +1,6 @@
 -- What plan leaves: the route stands, no learned value falls, the data are accepted again, and the count is right.
 -- Assumes nothing.
+use Rattle.std.specs.Prelude.{Ok}
 use mathlib.Core.Path.{◌≡◌, refl, ◌∙◌}
 use mathlib.Core.Logic.{◌≢◌}
 use mathlib.Core.Bool.{true}
@@ -15,7 +16,6 @@ use Rattle.model.specs.Route.{stands}
 use Rattle.model.specs.Search.{total}
 use Rattle.model.specs.Plan.{AfterPlan, answered, improved, plan_check, expanded_count, planned}
 use Rattle.model.specs.declared.Head.{Head}
-use Rattle.model.specs.declared.Verdict.TheVariants.{Accepted}
 use Rattle.model.specs.declared.Outcome.{Outcome}
 use Rattle.model.specs.Fit.{Held}
 use Rattle.model.proofs.Calls.Acceptance.{not_both}
@@ -44,13 +44,13 @@ pub record PlanKeeps (head : Head) (p : Lent) (s : Scratch) (r : AfterPlan) : Ty
   -- .. without a search it is 0, and scratch stays; ..
   pub unsearched : Unsearched r.answer.outcome → (r.answer.expanded ≡ 0) × (r.scratch ≡ s)
   -- .. and after one the number of cells marked 2
-  pub count_marks : plan_check head p s ≡ Accepted → head.cell ≢ head.goal → r.answer.expanded ≡ expanded_count (cells_of head) r.scratch.mark
+  pub count_marks : plan_check head p s ≡ Ok tt → head.cell ≢ head.goal → r.answer.expanded ≡ expanded_count (cells_of head) r.scratch.mark
   -- without a route what is lent stays: after "no way", on the goal, and refused
   pub routeless : ((L : ℕ) → r.answer.outcome ≢ Outcome.Route L) → r.lists ≡ p
 
 module _ (head : Head) (p : Lent) (s : Scratch) where
   -- where nothing changes
-  unchanged : (o : Outcome) → (plan_check head p s ≡ Accepted → head.cell ≢ head.goal → ⊥)
+  unchanged : (o : Outcome) → (plan_check head p s ≡ Ok tt → head.cell ≢ head.goal → ⊥)
       → PlanKeeps head p s (record { answer = answered head 0 o; lists = p; scratch = s })
   unchanged o no-search = record {
     same_head = refl;

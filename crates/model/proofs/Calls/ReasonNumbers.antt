@@ -1,5 +1,6 @@
 -- A reason and its number: each is known by the other, and every number is from 1 to 8.
 -- Assumes nothing.
+use Rattle.std.specs.Prelude.{Ok, Err}
 use mathlib.Core.Path.{◌≡◌, refl, sym, ap, ◌∙◌}
 use mathlib.Core.Logic.{◌↔◌}
 use mathlib.Core.Bool.{cond}
@@ -9,8 +10,7 @@ use lib.Dec.{eqb}
 use Rattle.model.specs.Numbers.{reason_number, verdict_number}
 use Rattle.model.specs.declared.Reason.{Reason}
 use Rattle.model.specs.declared.Reason.TheVariants.{Sides, Short, Outside, Unsound, OwnCell, NoRoute, Form}
-use Rattle.model.specs.declared.Verdict.{Verdict}
-use Rattle.model.specs.declared.Verdict.TheVariants.{Accepted, Refused}
+use Rattle.model.specs.Verdict.{Verdict}
 use Rattle.model.proofs.Calls.Acceptance.{not_both}
 
 -- a reason is known by its number
@@ -51,6 +51,6 @@ number_small OwnCell = omega arith
 number_small NoRoute = omega arith
 number_small Form = omega arith
 
-pub refused_number : (v : Verdict) (why : Reason) → (verdict_number v ≡ reason_number why) ↔ (v ≡ Refused why)
-refused_number Accepted why = (λ e. absurd (omega (arith, some_number why)), λ e. absurd (not_both e refl))
-refused_number (Refused other) why = (λ e. ap Refused (sym (by_number other) ∙ ap reason_of e ∙ by_number why), λ e. ap verdict_number e)
+pub refused_number : (v : Verdict) (why : Reason) → (verdict_number v ≡ reason_number why) ↔ (v ≡ Err why)
+refused_number (Ok _) why = (λ e. absurd (omega (arith, some_number why)), λ e. absurd (not_both e refl))
+refused_number (Err other) why = (λ e. ap Err (sym (by_number other) ∙ ap reason_of e ∙ by_number why), λ e. ap verdict_number e)

@@ -1,5 +1,6 @@
 -- Report: the cell is blocked, the data stay sound, and two reports commute.
 -- Assumes nothing.
+use Rattle.std.specs.Prelude.{Ok, Err}
 use mathlib.Core.Path.{◌≡◌, refl, sym, ◌∙◌}
 use mathlib.Core.Logic.{◌≢◌}
 use mathlib.Core.Bool.{Bool, true, false, ◌||◌}
@@ -20,8 +21,7 @@ use Rattle.model.specs.Report.{report_check, link_once_blocked, unlinked, blocke
 use Rattle.model.specs.declared.Head.{Head}
 use Rattle.model.specs.declared.Reason.{Reason}
 use Rattle.model.specs.declared.Reason.TheVariants.{Outside, OwnCell}
-use Rattle.model.specs.declared.Verdict.{Verdict}
-use Rattle.model.specs.declared.Verdict.TheVariants.{Accepted, Refused}
+use Rattle.model.specs.Verdict.{Verdict}
 use Rattle.model.specs.declared.Changed.{Changed}
 use Rattle.model.proofs.Lists.Bools.{or_false}
 use Rattle.model.proofs.Lists.Filled.{length_filled, filled_above, filled_at}
@@ -34,11 +34,11 @@ use Rattle.model.proofs.Calls.Acceptance.{check_passed, check_all}
 -- THE CALL ------------------------------------------------------------------------------------------------------------------------
 
 module _ (head : Head) (p : Lent) (c : ℕ) where
-  pub report_passed : report_check head p c ≡ Accepted → Held head p × (c < cells_of head) × (c ≢ head.cell)
+  pub report_passed : report_check head p c ≡ Ok tt → Held head p × (c < cells_of head) × (c ≢ head.cell)
   unfolding report_check
   report_passed e =
       let named = c ∷ cells_named head in
-      let both = both_passed (check head p (buffers_of p) named) (refuse_if (eqb c head.cell) OwnCell Accepted) e in
+      let both = both_passed (check head p (buffers_of p) named) (refuse_if (eqb c head.cell) OwnCell (Ok tt)) e in
       let t = check_passed head p (buffers_of p) named both.0 in
       let f = fits_passed head.width head.height (buffers_of p) named t.0 in
       let o = or_false (leb (cells_of head) c) _ f.2 in
@@ -49,10 +49,10 @@ module _ (head : Head) (p : Lent) (c : ℕ) where
           fit = sound_fit head p t.1;
         },
         leb-false _ _ o.0,
-        eqb-false _ _ (passed (eqb c head.cell) OwnCell Accepted both.1).0,
+        eqb-false _ _ (passed (eqb c head.cell) OwnCell (Ok tt) both.1).0,
       )
 
-  pub pass_report : Held head p → c < cells_of head → c ≢ head.cell → report_check head p c ≡ Accepted
+  pub pass_report : Held head p → c < cells_of head → c ≢ head.cell → report_check head p c ≡ Ok tt
   unfolding report_check
   pass_report a i n =
       rw (
@@ -69,7 +69,7 @@ module _ (head : Head) (p : Lent) (c : ℕ) where
 
 -- what report asks of accepted data: 3 for the reported cell, then 5
 pub report_rest_law : (head : Head) (p : Lent) (c : ℕ) → Held head p
-    → report_check head p c ≡ refuse_if (leb (cells_of head) c) Outside (refuse_if (eqb c head.cell) OwnCell Accepted)
+    → report_check head p c ≡ refuse_if (leb (cells_of head) c) Outside (refuse_if (eqb c head.cell) OwnCell (Ok tt))
 unfolding report_check check fits
 report_rest_law head p c a =
     rw (
@@ -80,28 +80,28 @@ report_rest_law head p c a =
     )
     (go (leb (cells_of head) c))
   where
-    go : (b : Bool) → and_then (and_then (refuse_if (b || false) Outside Accepted) Accepted) (refuse_if (eqb c head.cell) OwnCell Accepted)
-        ≡ refuse_if b Outside (refuse_if (eqb c head.cell) OwnCell Accepted)
+    go : (b : Bool) → and_then (and_then (refuse_if (b || false) Outside (Ok tt)) (Ok tt)) (refuse_if (eqb c head.cell) OwnCell (Ok tt))
+        ≡ refuse_if b Outside (refuse_if (eqb c head.cell) OwnCell (Ok tt))
     go true = refl
     go false = refl
 
 -- what report answers and leaves, in its two cases
 pub data Reporting (head : Head) (p : Lent) (c : ℕ) : After Changed → Type 0 where
-  report_refused : {why : Reason} → report_check head p c ≡ Refused why
-      → Reporting head p c (record { answer = changed head (Refused why); lists = p })
+  report_refused : {why : Reason} → report_check head p c ≡ Err why
+      → Reporting head p c (record { answer = changed head (Err why); lists = p })
   report_taken : Held head p → c < cells_of head → c ≢ head.cell
-      → Reporting head p c (record { answer = changed head Accepted; lists = blocked head p c })
+      → Reporting head p c (record { answer = changed head (Ok tt); lists = blocked head p c })
 
 pub report_is : (head : Head) (p : Lent) (c : ℕ) → Reporting head p c (reported head p c)
 unfolding reported
 report_is head p c = go _ refl
   where
     go : (v : Verdict) → report_check head p c ≡ v → Reporting head p c (elim v [
-      | Accepted ↦ record { answer = changed head Accepted; lists = blocked head p c }
-      | Refused why ↦ record { answer = changed head (Refused why); lists = p }
+      | Ok _ ↦ record { answer = changed head (Ok tt); lists = blocked head p c }
+      | Err why ↦ record { answer = changed head (Err why); lists = p }
     ])
-    go Accepted e = let a = report_passed head p c e in report_taken a.0 a.1 a.2
-    go (Refused why) e = report_refused e
+    go (Ok _) e = let a = report_passed head p c e in report_taken a.0 a.1 a.2
+    go (Err why) e = report_refused e
 
 -- The ground and the links once c is blocked --------------------------------------------------------------------------------------
 

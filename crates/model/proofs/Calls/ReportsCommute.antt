@@ -1,5 +1,6 @@
 -- What a report leaves, as a call; two reports leave the same lists in either order.
 -- Assumes nothing.
+use Rattle.std.specs.Prelude.{Ok}
 use mathlib.Core.Path.{◌≡◌, refl, sym, ap, ◌∙◌}
 use mathlib.Core.Logic.{◌≢◌, ◌⊎◌, inl, inr}
 use mathlib.Core.Bool.{Bool, true, false, cond, ◌||◌}
@@ -16,7 +17,6 @@ use Rattle.model.specs.Lent.{Lent, lent_with, After}
 use Rattle.model.specs.Head.{cells_of}
 use Rattle.model.specs.Report.{link_once_blocked, unlinked, blocked, reported}
 use Rattle.model.specs.declared.Head.{Head}
-use Rattle.model.specs.declared.Verdict.TheVariants.{Accepted}
 use Rattle.model.specs.declared.Changed.{Changed}
 use Rattle.model.specs.Fit.{Held}
 use Rattle.model.proofs.Calls.Acceptance.{not_both}
@@ -77,7 +77,7 @@ pub record ReportKeeps (head : Head) (p : Lent) (c : ℕ) (r : After Changed) : 
   pub same_head : r.answer.head ≡ head
   pub same_learned : r.lists.learned ≡ p.learned
   pub held : Held head p → Held head r.lists
-  pub taken : r.answer.verdict ≡ Accepted → Blocks p r.lists c
+  pub taken : r.answer.verdict ≡ Ok tt → Blocks p r.lists c
 
 module _ (head : Head) (p : Lent) (c : ℕ) where
   keeps : {r : After Changed} → Reporting head p c r → ReportKeeps head p c r

@@ -66,6 +66,12 @@ leads_none : (w h goal : ℕ) (learned link : List ℕ) (c : ℕ) → leads w h 
 unfolding leads
 leads_none w h goal learned link c t = eqb-true _ _ t
 
+-- from another cell than the goal the link leads to a cell of the plot
+pub leads_ahead : (w h goal : ℕ) (learned link : List ℕ) (v c : ℕ) → leads w h goal learned link v c ≡ true → c ≢ goal
+    → next w h link c < cells w h
+leads_ahead w h goal learned link zero c t away = absurd (away (leads_none w h goal learned link c t))
+leads_ahead w h goal learned link (suc v) c t away = (leads_on w h goal learned link v c t away).0
+
 module _ {w h goal cell : ℕ} (p : Lent) (f : Fit w h goal cell p) where
   -- where the test passes a route stands
   leads_some : (v c : ℕ) → c < cells w h → get_or p.learned c 0 ≡ v → leads w h goal p.learned p.link v c ≡ true

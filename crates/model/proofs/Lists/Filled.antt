@@ -1,15 +1,17 @@
 -- Laws of a test over all numbers below n, of counts, and of filled lists.
 -- Assumes nothing.
-use mathlib.Core.Path.{◌≡◌, refl, sym, ◌∙◌}
+use Rattle.std.proofs.lemmas.List.Edits.{fill_more}
+use mathlib.Core.Path.{◌≡◌, refl, sym, ap, ◌∙◌}
 use mathlib.Core.Logic.{◌≢◌}
 use mathlib.Core.Bool.{Bool, true, false, cond}
-use mathlib.Core.List.{List}
+use mathlib.Core.List.{List, ◌++◌}
 use Prim.Native.Nat.{ℕ, zero, suc, ◌+◌, ◌≤◌, ◌<◌}
+use native.Mathlib.Numerals.{add-one}
 use native.Mathlib.Decide.{ℕ_discrete, dec_lt}
 use native.Mathlib.Omega.{arith}
-use lib.ListN.{length, get_or, set, replicate, length-set}
-use lib.Seq.{get_or-set_same, get_or-set_other, ext_get_or}
-use Rattle.model.specs.Lists.{every, tally, filled}
+use lib.ListN.{length, get_or, set, take, drop, replicate, length-set}
+use lib.Seq.{get_or-set_same, get_or-set_other, ext_get_or, length-take-le}
+use Rattle.model.specs.Lists.{every, tally, filled, each}
 use Rattle.model.proofs.Lists.Bools.{and_left, and_right, and_both}
 
 -- one more number below n
@@ -143,3 +145,17 @@ pub filled_over : (n : ℕ) (entry : ℕ → ℕ) (l : List ℕ) (c v : ℕ) →
 filled_over n entry l c v room i =
     filled_alike n entry _ l (length-set (filled n entry l) c v ∙ length_filled n entry l) room
     (λ j b. get_or-set_other (filled n entry l) c j v 0 (omega arith) ∙ filled_above n entry l j 0 b)
+
+-- std's fill of the first n entries
+filled_each : (n v : ℕ) (l : List ℕ) → n ≤ length l → replicate n v ++ drop n l ≡ filled n (each v) l
+unfolding filled
+filled_each zero v l i = refl
+filled_each (suc n) v l i =
+    sym (rw (add-one n) at (fill_more n v l (omega arith))) ∙ ap (λ (m : List ℕ). set m n v) (filled_each n v l (omega arith))
+
+pub part_length : (n : ℕ) (l : List ℕ) → n ≤ length l → n ≡ length (take n l)
+part_length n l i = sym (length-take-le n l i)
+
+pub part_filled : (n v : ℕ) (l : List ℕ) {s : List ℕ} → n ≤ length l → (((y : ℕ) → y ≡ v → y ≡ v) → s ≡ replicate (length (take n l)) v)
+    → s ++ drop n l ≡ filled n (each v) l
+part_filled n v l i e = ap (λ (m : List ℕ). m ++ drop n l) (rw (length-take-le n l i) at e (λ y k. k)) ∙ filled_each n v l i

@@ -1,5 +1,6 @@
 -- The calls for a C controller: a refusal leaves every byte, the length stays, and a record stays a record.
 -- Assumes nothing.
+use Rattle.std.specs.Prelude.{Ok, Err, Result}
 use mathlib.Core.Path.{◌≡◌, refl, sym, ap, ◌∙◌}
 use mathlib.Core.List.{List}
 use Prim.Native.Nat.{ℕ, ◌+◌, ◌<◌}
@@ -17,8 +18,7 @@ use Rattle.model.specs.Move.{moved}
 use Rattle.model.specs.Controller.{own_room, own_scratch, AfterC, after_c, rewritten, on_record, state_in, reported_c, planned_c, moved_c}
 use Rattle.model.specs.declared.Head.{Head}
 use Rattle.model.specs.declared.Reason.{Reason}
-use Rattle.model.specs.declared.Verdict.{Verdict}
-use Rattle.model.specs.declared.Verdict.TheVariants.{Accepted, Refused}
+use Rattle.model.specs.Verdict.{Verdict}
 use Rattle.model.specs.declared.Outcome.{Outcome}
 use Rattle.model.specs.declared.Step.{Step}
 use Rattle.model.specs.Fit.{Held}
@@ -34,11 +34,11 @@ use Rattle.model.proofs.Grid.Geometry.{adj_inside}
 
 -- What a call answers and leaves, in its three cases.
 pub data OnRecord (bytes : List ℕ) (verdict : Verdict) (answer : ℕ) (head : Head) (p : Lent) : AfterC → Type 0 where
-  unread : {why : Reason} → load_check bytes own_room ≡ Refused why
+  unread : {why : Reason} → load_check bytes own_room ≡ Err why
       → OnRecord bytes verdict answer head p (after_c (refusal why) bytes)
-  undone : {why : Reason} → load_check bytes own_room ≡ Accepted → verdict ≡ Refused why
+  undone : {why : Reason} → load_check bytes own_room ≡ Ok tt → verdict ≡ Err why
       → OnRecord bytes verdict answer head p (after_c answer bytes)
-  done : load_check bytes own_room ≡ Accepted → verdict ≡ Accepted
+  done : load_check bytes own_room ≡ Ok tt → verdict ≡ Ok tt
       → OnRecord bytes verdict answer head p (after_c answer (record_of head p))
 
 module _ (bytes : List ℕ) (verdict : Verdict) (answer : ℕ) (head : Head) (p : Lent) where
@@ -48,33 +48,33 @@ module _ (bytes : List ℕ) (verdict : Verdict) (answer : ℕ) (head : Head) (p 
     where
       go : (v v' : Verdict) → load_check bytes own_room ≡ v → verdict ≡ v'
           → OnRecord bytes verdict answer head p (elim v [
-            | Accepted ↦ after_c answer (rewritten v' bytes (record_of head p))
-            | Refused why ↦ after_c (refusal why) bytes
+            | Ok _ ↦ after_c answer (rewritten v' bytes (record_of head p))
+            | Err why ↦ after_c (refusal why) bytes
           ])
-      go Accepted Accepted e f = done e f
-      go Accepted (Refused why) e f = undone e f
-      go (Refused why) v' e f = unread e
+      go (Ok _) (Ok _) e f = done e f
+      go (Ok _) (Err why) e f = undone e f
+      go (Err why) v' e f = unread e
 
 -- WHAT HOLDS of every such call.
 pub record RecordCall (bytes : List ℕ) (verdict : Verdict) (after : AfterC) : Type 0 where
   -- "a refusal n is 70,000 + n", and it changes no byte: load's, ..
-  pub unread : (why : Reason) → load_check bytes own_room ≡ Refused why → (after.answer ≡ 70000 + reason_number why) × (after.bytes ≡ bytes)
+  pub unread : (why : Reason) → load_check bytes own_room ≡ Err why → (after.answer ≡ 70000 + reason_number why) × (after.bytes ≡ bytes)
   -- .. and then the call's own
-  pub undone : (why : Reason) → load_check bytes own_room ≡ Accepted → verdict ≡ Refused why → (after.answer ≡ 70000 + reason_number why)
+  pub undone : (why : Reason) → load_check bytes own_room ≡ Ok tt → verdict ≡ Err why → (after.answer ≡ 70000 + reason_number why)
       × (after.bytes ≡ bytes)
   -- an accepted call answers less
-  pub done : load_check bytes own_room ≡ Accepted → verdict ≡ Accepted → after.answer < 70000
+  pub done : load_check bytes own_room ≡ Ok tt → verdict ≡ Ok tt → after.answer < 70000
   -- "rewritten there with the same length"
   pub same_length : length after.bytes ≡ length bytes
   -- a record that load accepts stays one
-  pub stays_record : load_check bytes own_room ≡ Accepted → load_check after.bytes own_room ≡ Accepted
+  pub stays_record : load_check bytes own_room ≡ Ok tt → load_check after.bytes own_room ≡ Ok tt
 
 -- what is asked of a call: its number where it is refused, and where it is accepted a smaller one, and accepted data
 record Serves (bytes : List ℕ) (verdict : Verdict) (answer : ℕ) (head : Head) (p : Lent) : Type 0 where
-  number : (why : Reason) → verdict ≡ Refused why → answer ≡ 70000 + reason_number why
-  small : load_check bytes own_room ≡ Accepted → verdict ≡ Accepted → answer < 70000
-  same_cells : load_check bytes own_room ≡ Accepted → cells_of head ≡ cells_of (head_of bytes)
-  held : load_check bytes own_room ≡ Accepted → Held head p
+  number : (why : Reason) → verdict ≡ Err why → answer ≡ 70000 + reason_number why
+  small : load_check bytes own_room ≡ Ok tt → verdict ≡ Ok tt → answer < 70000
+  same_cells : load_check bytes own_room ≡ Ok tt → cells_of head ≡ cells_of (head_of bytes)
+  held : load_check bytes own_room ≡ Ok tt → Held head p
 
 record_call : {bytes : List ℕ} {verdict : Verdict} {answer : ℕ} {head : Head} {p : Lent} {after : AfterC} → OnRecord bytes verdict answer head p after
     → Serves bytes verdict answer head p → RecordCall bytes verdict after
@@ -103,7 +103,7 @@ record_call {bytes} {head = head} {p = p} (done e g) s = record {
 -- The three calls ---------------------------------------------------------------------------------------------------------------
 
 module _ (bytes : List ℕ) where
-  state_held : load_check bytes own_room ≡ Accepted → Held (head_of bytes) (state_in bytes)
+  state_held : load_check bytes own_room ≡ Ok tt → Held (head_of bytes) (state_in bytes)
   state_held e = load_held bytes own_room e
 
   pub report_on_record : (c : ℕ) → RecordCall bytes (reported (head_of bytes) (state_in bytes) c).answer.verdict (reported_c bytes c)
@@ -129,13 +129,13 @@ module _ (bytes : List ℕ) where
         held = λ e. rw k.same_head (k.held (state_held e));
       })
     where
-      refused : (o : Outcome) (why : Reason) → outcome_verdict o ≡ Refused why → plan_answer o ≡ 70000 + reason_number why
+      refused : (o : Outcome) (why : Reason) → outcome_verdict o ≡ Err why → plan_answer o ≡ 70000 + reason_number why
       refused (Outcome.Route L) why e = absurd (not_both e refl)
       refused Outcome.NoWay why e = absurd (not_both e refl)
       refused Outcome.Arrived why e = absurd (not_both e refl)
       refused (Outcome.Refused other) why e = let q : other ≡ why = cc in ap refusal q
 
-      length_small : Held (head_of bytes) (state_in bytes) → (o : Outcome) → outcome_verdict o ≡ Accepted
+      length_small : Held (head_of bytes) (state_in bytes) → (o : Outcome) → outcome_verdict o ≡ Ok tt
           → Says (head_of bytes) (state_in bytes) own_scratch o → plan_answer o < 70000
       length_small h (Outcome.Route L) e t = omega (arith, fewest_below adj_inside h.placed.cart_on t.2, h.placed.few)
       length_small h Outcome.NoWay e t = omega arith
@@ -155,12 +155,12 @@ module _ (bytes : List ℕ) where
         held = λ e. k.held (state_held e);
       })
     where
-      refused : (cell : ℕ) (s : Step) (why : Reason) → step_verdict s ≡ Refused why → move_answer cell s ≡ 70000 + reason_number why
-      refused cell Step.Moved why e = absurd (not_both e refl)
-      refused cell Step.Arrived why e = absurd (not_both e refl)
-      refused cell (Step.Refused other) why e = let q : other ≡ why = cc in ap refusal q
+      refused : (cell : ℕ) (s : Result Step Reason) (why : Reason) → step_verdict s ≡ Err why → move_answer cell s ≡ 70000 + reason_number why
+      refused cell (Ok Step.Moved) why e = absurd (not_both e refl)
+      refused cell (Ok Step.Arrived) why e = absurd (not_both e refl)
+      refused cell (Err other) why e = let q : other ≡ why = cc in ap refusal q
 
-      cell_small : (cell : ℕ) (s : Step) → cell < 70000 → step_verdict s ≡ Accepted → move_answer cell s < 70000
-      cell_small cell Step.Moved l e = l
-      cell_small cell Step.Arrived l e = l
-      cell_small cell (Step.Refused why) l e = absurd (not_both refl e)
+      cell_small : (cell : ℕ) (s : Result Step Reason) → cell < 70000 → step_verdict s ≡ Ok tt → move_answer cell s < 70000
+      cell_small cell (Ok Step.Moved) l e = l
+      cell_small cell (Ok Step.Arrived) l e = l
+      cell_small cell (Err why) l e = absurd (not_both refl e)

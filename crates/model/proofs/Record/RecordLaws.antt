@@ -1,5 +1,6 @@
 -- The record: what save writes, load reads back, and a state has one record.
 -- Assumes nothing.
+use Rattle.std.specs.Prelude.{Ok}
 use mathlib.Core.Path.{◌≡◌, refl, sym, ap, ap₂, ◌∙◌}
 use mathlib.Core.Bool.{true, not, false≢true}
 use mathlib.Core.List.{List, [], ◌∷◌}
@@ -17,7 +18,6 @@ use Rattle.model.specs.Record.{big, ground_size, ground_byte, learned_bytes, rec
 use Rattle.model.specs.Record.{formed}
 use Rattle.model.specs.Store.{load_check, loaded}
 use Rattle.model.specs.declared.Head.{Head}
-use Rattle.model.specs.declared.Verdict.TheVariants.{Accepted}
 use Rattle.model.proofs.Lists.Bools.{and_left, and_right, and_both}
 use Rattle.model.specs.Fit.{Room, Held}
 use Rattle.model.proofs.Calls.Soundness.{sound_fit, fit_sound}
@@ -94,7 +94,7 @@ record LoadPasses (bytes : List ℕ) (q : Lent) : Type 0 where
   held : Held (head_of bytes) (read_into (cells_of (head_of bytes)) bytes q)
 
 module _ (bytes : List ℕ) (q : Lent) where
-  load_passed : load_check bytes q ≡ Accepted → LoadPasses bytes q
+  load_passed : load_check bytes q ≡ Ok tt → LoadPasses bytes q
   unfolding load_check
   load_passed e =
       let head = head_of bytes in
@@ -119,7 +119,7 @@ module _ (bytes : List ℕ) (q : Lent) where
         };
       }
 
-  passed_load : LoadPasses bytes q → load_check bytes q ≡ Accepted
+  passed_load : LoadPasses bytes q → load_check bytes q ≡ Ok tt
   unfolding load_check
   passed_load t =
       let head = head_of bytes in
@@ -134,7 +134,7 @@ module _ (bytes : List ℕ) (q : Lent) where
         fit_sound head (read_into n bytes q) a.fit,
       )
 
-  module _ (e : load_check bytes q ≡ Accepted) where
+  module _ (e : load_check bytes q ≡ Ok tt) where
     -- Loaded data are sound, and have room.
     pub load_held : Held (head_of bytes) (read_into (cells_of (head_of bytes)) bytes q)
     load_held = (load_passed e).held
@@ -153,7 +153,7 @@ module _ (bytes : List ℕ) (q : Lent) where
     load_long = ap length (sym saved_again) ∙ record_long (head_of bytes) _ load_held.room
 
 -- "a state has one record": two that load accepts, with the same head and entries, are the same bytes.
-pub one_record : (bytes bytes' : List ℕ) (q q' : Lent) → load_check bytes q ≡ Accepted → load_check bytes' q' ≡ Accepted → head_of bytes ≡ head_of bytes'
+pub one_record : (bytes bytes' : List ℕ) (q q' : Lent) → load_check bytes q ≡ Ok tt → load_check bytes' q' ≡ Ok tt → head_of bytes ≡ head_of bytes'
     → SameEntries (cells_of (head_of bytes)) (read_into (cells_of (head_of bytes)) bytes q) (read_into (cells_of (head_of bytes')) bytes' q')
     → bytes ≡ bytes'
 one_record bytes bytes' q q' e e' h s =
@@ -172,13 +172,13 @@ module _ (head : Head) (p : Lent) (a : Held head p) (q : Lent) (r : Room (cells_
     fit = fit_same p _ a.placed a.fit (entries_back head p a q r);
   }
 
-  pub load_accepted : load_check (record_of head p) q ≡ Accepted
+  pub load_accepted : load_check (record_of head p) q ≡ Ok tt
   load_accepted =
       let f = record_formed head p a in
       passed_load (record_of head p) q (record { sides = f.0; form = f.1; room = rw (head_read head p) r; held = rw (head_read head p) back_held })
 
   -- "A saved record reads back as the same state": the head ..
-  pub loaded_is : loaded (record_of head p) q ≡ record { answer = changed head Accepted; lists = read_into (cells_of head) (record_of head p) q }
+  pub loaded_is : loaded (record_of head p) q ≡ record { answer = changed head (Ok tt); lists = read_into (cells_of head) (record_of head p) q }
   unfolding loaded
   loaded_is = rw (load_accepted, loaded, head_read head p)
 

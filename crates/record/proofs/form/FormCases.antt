@@ -1,5 +1,6 @@
 -- At each answer of form's checks, the tests that led there decide it; and what the tests leave.
 -- Assumes nothing.
+use Rattle.std.specs.Prelude.{Ok, Err}
 use mathlib.Core.Path.{◌≡◌, sym, ap₂, ◌∙◌}
 use mathlib.Core.Bool.{Bool, true, false, not}
 use mathlib.Core.List.{List}
@@ -11,8 +12,7 @@ use Rattle.model.specs.Plot.{bad_sides}
 use Rattle.model.specs.Head.{cells_of}
 use Rattle.model.specs.Record.{width_at, height_at, goal_at, record_length, byte_of, head_of}
 use Rattle.model.specs.declared.Reason.TheVariants.{Sides, Form}
-use Rattle.model.specs.declared.Verdict.{Verdict}
-use Rattle.model.specs.declared.Verdict.TheVariants.{Accepted, Refused}
+use Rattle.model.specs.Verdict.{Verdict}
 use Rattle.model.proofs.Lists.Bools.{and_left}
 use Rattle.model.proofs.Calls.Acceptance.{passed}
 use Rattle.record.specs.Form.{sides_test, rest_test, form_check, Formed}
@@ -27,7 +27,7 @@ unfolding rest_test
 rest_long n bytes e = eqb-true (length bytes) (record_length n) (and_left (eqb (length bytes) (record_length n)) _ e)
 
 module _ (bytes : List ℕ) {s : Bool} (e : s ≡ sides_test bytes) where
-  pub form_first : s ≡ false → Refused Form ≡ form_check bytes
+  pub form_first : s ≡ false → Err Form ≡ form_check bytes
   unfolding form_check
   form_first f = rw (sym e ∙ f)
 
@@ -36,7 +36,7 @@ module _ (bytes : List ℕ) {s : Bool} (e : s ≡ sides_test bytes) where
     sides_read : b ≡ bad_sides (head_of bytes).width (head_of bytes).height
     sides_read = d ∙ ap₂ bad_sides (width_by bytes p) (height_by bytes q)
 
-    pub form_sides : b ≡ true → Refused Sides ≡ form_check bytes
+    pub form_sides : b ≡ true → Err Sides ≡ form_check bytes
     unfolding form_check
     form_sides u = rw (sym e ∙ t, sym sides_read ∙ u)
 
@@ -44,15 +44,15 @@ module _ (bytes : List ℕ) {s : Bool} (e : s ≡ sides_test bytes) where
       rest_read : r ≡ rest_test (cells_of (head_of bytes)) bytes
       rest_read = f ∙ ap₂ (λ (x y : ℕ). rest_test (x * y) bytes) (width_by bytes p) (height_by bytes q)
 
-      pub form_rest : r ≡ false → Refused Form ≡ form_check bytes
+      pub form_rest : r ≡ false → Err Form ≡ form_check bytes
       unfolding form_check
       form_rest v = rw (sym e ∙ t, sym sides_read ∙ u, sym rest_read ∙ v)
 
-      pub form_passed : r ≡ true → Accepted ≡ form_check bytes
+      pub form_passed : r ≡ true → (Ok tt) ≡ form_check bytes
       unfolding form_check
       form_passed v = rw (sym e ∙ t, sym sides_read ∙ u, sym rest_read ∙ v)
 
-pub form_formed : (bytes : List ℕ) {v : Verdict} → v ≡ form_check bytes → v ≡ Accepted → Formed (head_of bytes) bytes
+pub form_formed : (bytes : List ℕ) {v : Verdict} → v ≡ form_check bytes → v ≡ Ok tt → Formed (head_of bytes) bytes
 unfolding form_check
 form_formed bytes e f =
     let a = passed (not (sides_test bytes)) _ _ (sym e ∙ f) in

@@ -3,18 +3,16 @@
 use mathlib.Core.Path.{◌≡◌, refl, ap, ap₂, ◌∙◌}
 use mathlib.Core.Bool.{Bool, false, ◌&&◌}
 use mathlib.Core.List.{List}
-use Prim.Native.Nat.{ℕ, ◌-◌, ◌*◌, ◌≤◌, ◌<◌}
+use Prim.Native.Nat.{ℕ, ◌-◌, ◌*◌}
 use native.Mathlib.Omega.{arith}
-use borrow.Author.Tests.{le-leb, lt-leb, eq-eqb, ne_eqb}
+use borrow.Author.Tests.{eq-eqb, ne_eqb}
 use lib.ListN.{length, take, drop, length-drop}
 use lib.Seq.{take_all}
 use Rattle.model.specs.Lists.{filled}
 use Rattle.model.specs.Lent.{Lent, lent_with}
-use Rattle.model.specs.Head.{head_at}
-use Rattle.model.specs.Record.{ground_size, width_at, height_at, goal_at, cell_at, ground_at, learned_at, link_at, record_length, byte_of, big_of, head_of}
+use Rattle.model.specs.Record.{ground_size, width_at, height_at, goal_at, cell_at, ground_at, learned_at, link_at, record_length, byte_of, head_of}
 use Rattle.model.specs.Record.{ground_in, learned_in, link_in, read_into}
-use Rattle.model.specs.declared.Head.{Head}
-use Rattle.record.specs.Form.{begins, spare_clear, sides_test, rest_test}
+use Rattle.record.specs.Form.{begins, spare_clear, rest_test}
 use Rattle.record.specs.Cells.{bit_at, big_at, byte_at}
 
 -- the part of the bytes from a place on, as it is lent
@@ -30,15 +28,6 @@ begins_from : (bytes : List ℕ) (at tag size : ℕ) {a : Bool} → a ≡ begins
 begins_from bytes at tag size e = e ∙ ap (begins tag size) (tail_is bytes at)
 
 module _ (bytes : List ℕ) where
-  pub sides_short : length bytes < goal_at → false ≡ sides_test bytes
-  unfolding sides_test
-  sides_short l = rw (lt-leb goal_at (length bytes) l)
-
-  pub sides_by : {a b : Bool} → goal_at ≤ length bytes → a ≡ begins 1 1 (from bytes width_at) → b ≡ begins 2 1 (from bytes height_at)
-      → (a && b) ≡ sides_test bytes
-  unfolding sides_test
-  sides_by l e f = rw (le-leb goal_at (length bytes) l) (ap₂ ◌&&◌ (begins_from bytes width_at 1 1 e) (begins_from bytes height_at 2 1 f))
-
   pub rest_short : (n : ℕ) → (length bytes ≡ record_length n → ⊥) → false ≡ rest_test n bytes
   unfolding rest_test
   rest_short n l = rw (ne_eqb (length bytes) (record_length n) l)
@@ -68,15 +57,6 @@ module _ (bytes : List ℕ) where
   pub height_by : {h : ℕ} → h ≡ byte_of (from bytes height_at) 0 → h ≡ (head_of bytes).height
   unfolding head_of
   height_by e = e ∙ ap (λ (b : List ℕ). byte_of b 0) (tail_is bytes height_at)
-
-  pub head_by : {w h goal cell : ℕ} {head : Head} → head ≡ head_at w h goal cell → w ≡ byte_of (from bytes width_at) 0
-      → h ≡ byte_of (from bytes height_at) 0
-      → goal ≡ big_of (from bytes goal_at) 0 → cell ≡ big_of (from bytes cell_at) 0 → head ≡ head_of bytes
-  unfolding head_of
-  head_by e w h g c =
-      let byte : (at : ℕ) → byte_of (from bytes at) 0 ≡ byte_of (drop at bytes) 0 = λ at. ap (λ (b : List ℕ). byte_of b 0) (tail_is bytes at) in
-      let both : (at : ℕ) → big_of (from bytes at) 0 ≡ big_of (drop at bytes) 0 = λ at. ap (λ (b : List ℕ). big_of b 0) (tail_is bytes at) in
-      e ∙ rw (w ∙ byte width_at, h ∙ byte height_at, g ∙ both goal_at, c ∙ both cell_at)
 
   -- a list read out of the part from `at` on, where the field begins
   part_by : (n at place : ℕ) (cell : List ℕ → ℕ → ℕ) (l : List ℕ) {put : List ℕ} → at ≡ place → put ≡ filled n (cell (from bytes at)) l

@@ -1,5 +1,6 @@
 -- Load's checks: what code tests is what document 01 asks.
 -- Assumes nothing.
+use Rattle.std.specs.Prelude.{Ok}
 use mathlib.Core.Path.{◌≡◌, refl, sym, ap, ◌∙◌}
 use mathlib.Core.Bool.{Bool, true, false, not, ◌&&◌}
 use mathlib.Core.List.{List}
@@ -16,8 +17,7 @@ use Rattle.model.specs.Store.{load_check}
 use Rattle.model.specs.declared.Head.{Head}
 use Rattle.model.specs.declared.Reason.{Reason}
 use Rattle.model.specs.declared.Reason.TheVariants.{Sides, Outside, Form}
-use Rattle.model.specs.declared.Verdict.{Verdict}
-use Rattle.model.specs.declared.Verdict.TheVariants.{Accepted}
+use Rattle.model.specs.Verdict.{Verdict}
 use Rattle.model.specs.Fit.{Room, Placed}
 use Rattle.model.proofs.Calls.Soundness.{sound_fit, fit_sound}
 use Rattle.model.proofs.Calls.FirstEntries.{SameEntries, fit_same}
@@ -55,7 +55,7 @@ refuse_same true b' why v v' e f = rw (← e)
 refuse_same false b' why v v' e f = rw (← e) (f refl)
 
 then_next : (a b c : Bool) (next : Verdict)
-    → and_then (refuse_if a Form (refuse_if b Sides (refuse_if c Form Accepted))) next ≡ refuse_if a Form (refuse_if b Sides (refuse_if c Form next))
+    → and_then (refuse_if a Form (refuse_if b Sides (refuse_if c Form (Ok tt)))) next ≡ refuse_if a Form (refuse_if b Sides (refuse_if c Form next))
 then_next true b c next = refl
 then_next false true c next = refl
 then_next false false true next = refl
@@ -63,7 +63,7 @@ then_next false false false next = refl
 
 -- what is left to ask of a record in form before it is opened
 abbrev pub cells_check : (bytes : List ℕ) → Verdict
-cells_check bytes = refuse_if (any_outside (cells_of (head_of bytes)) (cells_named (head_of bytes))) Outside Accepted
+cells_check bytes = refuse_if (any_outside (cells_of (head_of bytes)) (cells_named (head_of bytes))) Outside (Ok tt)
 
 -- What code tests of the bytes alone is what load asks of them ..
 pub tests_are : (bytes : List ℕ) → ((i : ℕ) → get_or bytes i 0 < 256) → and_then (form_check bytes) (cells_check bytes) ≡ open_check bytes
@@ -85,7 +85,7 @@ both_are bytes p =
     go (not (sides_formed bytes)) (bad_sides head.width head.height) (not (formed bytes)) (any_outside (cells_of head) (cells_named head))
     (state_check head bytes p)
   where
-    go : (a b c o : Bool) (next : Verdict) → and_then (refuse_if a Form (refuse_if b Sides (refuse_if c Form (refuse_if o Outside Accepted)))) next
+    go : (a b c o : Bool) (next : Verdict) → and_then (refuse_if a Form (refuse_if b Sides (refuse_if c Form (refuse_if o Outside (Ok tt))))) next
         ≡ refuse_if a Form (refuse_if b Sides (refuse_if c Form (refuse_if o Outside next)))
     go true b c o next = refl
     go false true c o next = refl

@@ -8,7 +8,6 @@ use native.Mathlib.Numerals.{add-one}
 use native.Mathlib.Omega.{arith}
 use borrow.Author.Tests.{lt-ltb, le-ltb}
 use lib.ListN.{get_or}
-use lib.Pow.{pow_mono}
 use Rattle.model.specs.Record.{low_bits}
 
 -- the byte holds the lowest m bits, and bit is the worth of the next
@@ -45,14 +44,6 @@ module _ (n : ℕ) (ground : List ℕ) (j : ℕ) where
   pack_begin = record { is = refl; power = refl; small = omega arith }
 
 module _ {n : ℕ} {ground : List ℕ} {j m byte bit : ℕ} (t : Packing n ground j m byte bit) where
-  -- up to eight bits are no more than a byte
-  pub pack_few : m ≤ 8 → bit ≤ 256
-  pack_few l = let q : 2 ^ m ≤ 256 = pow_mono l in omega (arith, t.power)
-
-  -- and so one bit more, v, still fits in it
-  pub pack_fits : (v : ℕ) → v ≤ 1 → m < 8 → byte + v * bit < 256
-  pack_fits v l i = let q : 2 ^ suc m ≤ 256 = pow_mono i in omega (arith, t.power, t.small, worth_le v bit l, pow-succ' 2 m)
-
   pub pack_next : (v : ℕ) → v ≡ get_or ground (8 * j + m) 0 → v ≤ 1 → 8 * j + m < n → Packing n ground j (m + 1) (byte + v * bit) (bit + bit)
   pack_next v e l i = record {
     is = rw (e, t.is, t.power) (sym (ap (low_bits n ground j) (add-one m) ∙ bit_more n ground j m i));

@@ -1,23 +1,31 @@
 -- A field that is being written: its front stands, and behind that more and more of its bytes.
 -- Assumes nothing.
-use Prim.Native.Nat.{ℕ, ◌+◌, ◌*◌, ◌/◌, ◌%◌, ◌≤◌, ◌<◌}
+use Prim.Native.Nat.{ℕ, suc, ◌+◌, ◌-◌, ◌*◌, ◌/◌, ◌%◌, ◌≤◌, ◌<◌}
 use mathlib.Core.Path.{◌≡◌, refl, sym, ap, ◌∙◌}
 use mathlib.Core.List.{List, [], ◌∷◌, ◌++◌, append_assoc, append-nil}
 use native.Mathlib.Numerals.{add-one}
 use native.Mathlib.Omega.{arith}
 use lib.ListN.{length, get_or, set, take, drop, length-set, length-append, take-append-drop}
-use lib.Seq.{length-take-le, take-suc, append_snoc, drop-drop, sets-eq}
+use lib.Seq.{length-take-le, append_snoc, drop-drop, sets-eq}
+use Rattle.std.specs.Int.{to_be_bytes, w16}
 use Rattle.model.specs.Lists.{gathered}
 use Rattle.model.specs.Lent.{fronted}
 use Rattle.model.specs.Record.{big, field, ground_size, low_bits, ground_byte, learned_bytes}
 use Rattle.model.proofs.Lists.Gathered.{length_gathered}
-use Rattle.record.specs.Cells.{exchanged}
-use Rattle.record.specs.Written.{two_put}
+use Rattle.record.specs.Written.{pair_put}
 use Rattle.record.proofs.save.GrowingFront.{front_store}
 
--- three stores are the front of a field
-pub front_put : (tag size : ℕ) (l : List ℕ) → 3 ≤ length l → set (set (set l 0 tag) 1 (size / 256)) 2 (size % 256) ≡ fronted (tag ∷ big size) l
-front_put tag size l room = sets-eq (tag ∷ big size) l 0 (omega arith)
+-- two bytes over two entries
+pub two_copied : {bytes : List ℕ} (x c : ℕ) (l : List ℕ) → x < 65536 → bytes ≡ to_be_bytes w16 x → c + 2 ≤ length l
+    → take c l ++ (bytes ++ drop (c + 2 - c) (drop c l)) ≡ pair_put x c l
+unfolding pair_put
+two_copied x c l small e r =
+    let one : c + 1 ≡ suc c = omega arith in
+    let k : c + 2 - c ≡ 2 = omega arith in
+    let high : x / 256 % 256 ≡ x / 256 = omega arith in
+    rw (one, k, e, drop-drop 2 c l)
+    (sym (append_assoc (take c l) (to_be_bytes w16 x) (drop (c + 2) l)) ∙ sym (sets-eq (to_be_bytes w16 x) l c r)
+    ∙ ap (λ (v : ℕ). set (set l c v) (suc c) (x % 256)) high)
 
 -- l is l₀, which begins with the front of a field, with these bytes behind that front
 pub record Putting (bytes l₀ l : List ℕ) : Type 0 where
@@ -66,30 +74,6 @@ put_end tag size part {bytes} p e n =
     ∙ ap (λ (s : List ℕ). (tag ∷ big size) ++ (bytes ++ s)) (drop-drop (length bytes) 3 part ∙ ap (λ (i : ℕ). drop i part) k)
     ∙ ap (λ (i : ℕ). fronted ((tag ∷ big i) ++ bytes) part) (sym n)
 
--- a byte, or a number, behind the front of its field
-pub byte_put : (tag v : ℕ) (part l₀ : List ℕ) → 4 ≤ length l₀ → l₀ ≡ fronted (tag ∷ big 1) part → set l₀ 3 v ≡ fronted (field tag (v ∷ [])) part
-byte_put tag v part l₀ room e = put_end tag 1 part (put_more 3 v (put_begin l₀ (omega arith)) refl (omega arith)) e refl
-
-pub big_put : (tag v : ℕ) (part l₀ : List ℕ) → 5 ≤ length l₀ → l₀ ≡ fronted (tag ∷ big 2) part
-    → set (set l₀ 3 (v / 256)) 4 (v % 256) ≡ fronted (field tag (big v)) part
-big_put tag v part l₀ room e =
-    put_end tag 2 part (put_more 4 (v % 256) (put_more 3 (v / 256) (put_begin l₀ (omega arith)) refl (omega arith)) refl (omega arith)) e refl
-
--- Links ---------------------------------------------------------------------------------------------------------------------------
-
-module _ {l₀ : List ℕ} (link : List ℕ) where
-  pub link_next : {i : ℕ} {l : List ℕ} → Putting (take i link) l₀ l → i < length link → 3 + i < length l₀
-      → Putting (take (i + 1) link) l₀ (set l (3 + i) (get_or link i 0))
-  link_next {i} p some room =
-      put_next (3 + i) (get_or link i 0) p (omega (arith, length-take-le i link (omega arith))) room
-      (sym (take-suc link i 0 some) ∙ ap (λ (k : ℕ). take k link) (sym (add-one i)))
-
-  pub link_end : (tag n : ℕ) (part : List ℕ) (i : ℕ) {l : List ℕ} → Putting (take i link) l₀ l → i ≡ n → n ≤ length link
-      → l₀ ≡ fronted (tag ∷ big n) part
-      → l ≡ fronted (field tag (take n link)) part
-  link_end tag n part i {l} p e room q =
-      let t : Putting (take n link) l₀ l = rw e at p in put_end tag n part t q (length-take-le n link room)
-
 -- Learned values ------------------------------------------------------------------------------------------------------------------
 
 pub learned_long : (learned : List ℕ) (n : ℕ) → length (gathered n (learned_bytes learned)) ≡ 2 * n
@@ -102,18 +86,14 @@ unfolding gathered learned_bytes
 learned_bytes_law learned i v e = append_snoc (gathered i (learned_bytes learned)) (v / 256) (v % 256 ∷ []) ∙ rw (add-one i, e)
 
 module _ {l₀ : List ℕ} (learned : List ℕ) where
-  -- v is the value, x the value with its bytes exchanged, which are put the low one first
-  pub learned_next : (i : ℕ) {l l' : List ℕ} (place : ℕ) {v x : ℕ} → Putting (gathered i (learned_bytes learned)) l₀ l → v ≡ get_or learned i 0
-      → v < 65536
-      → x ≡ exchanged v → l' ≡ two_put x place l → place ≡ 3 + 2 * i → place + 1 < length l₀
+  pub learned_next : (i : ℕ) {l l' : List ℕ} (place : ℕ) {v : ℕ} → Putting (gathered i (learned_bytes learned)) l₀ l → v ≡ get_or learned i 0
+      → l' ≡ pair_put v place l → place ≡ 3 + 2 * i → place + 1 < length l₀
       → Putting (gathered (i + 1) (learned_bytes learned)) l₀ l'
-  unfolding exchanged two_put
-  learned_next i place {v} {x} p e small h w q room =
+  unfolding pair_put
+  learned_next i place {v} p e w q room =
       let n = learned_long learned i in
-      let a : x % 256 ≡ v / 256 = omega (arith, h, small) in
-      let b : x / 256 ≡ v % 256 = omega (arith, h, small) in
       let high = put_more place (v / 256) p (omega (arith, n, q)) (omega arith) in
-      rw (w, a, b)
+      rw w
       (put_next (place + 1) (v % 256) high (omega (arith, n, q, length-append (gathered i (learned_bytes learned)) (v / 256 ∷ []))) room
       (learned_bytes_law learned i v e))
 

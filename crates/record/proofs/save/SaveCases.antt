@@ -1,11 +1,12 @@
 -- The record out of its fields, and save's verdict and answer in each of their cases.
 -- Assumes nothing.
-use Prim.Native.Nat.{ℕ, ◌≤◌, ◌<◌}
+use Rattle.std.specs.Prelude.{Ok, Err}
+use Prim.Native.Nat.{ℕ, ◌≤◌}
 use mathlib.Core.Path.{◌≡◌, refl, sym, ap, ◌∙◌}
 use mathlib.Core.Bool.{false}
 use mathlib.Core.List.{List, [], ◌∷◌, ◌++◌, append_assoc}
 use native.Mathlib.Omega.{arith}
-use borrow.Author.Tests.{ltb-false, lt-ltb, le-ltb}
+use borrow.Author.Tests.{ltb-false}
 use lib.Dec.{ltb, eqb}
 use lib.ListN.{length, take, length-append}
 use Rattle.model.specs.Plot.{max_side, max_cells, bad_side, bad_sides}
@@ -18,10 +19,7 @@ use Rattle.model.specs.Record.{record_length}
 use Rattle.model.specs.Store.{AfterSave, after_save, saved_as, save_check, saved}
 use Rattle.model.specs.declared.Head.{Head}
 use Rattle.model.specs.declared.Reason.{Reason}
-use Rattle.model.specs.declared.Reason.TheVariants.{Short}
-use Rattle.model.specs.declared.Verdict.{Verdict}
-use Rattle.model.specs.declared.Verdict.TheVariants.{Accepted, Refused}
-use Rattle.model.specs.declared.Length.{Length}
+use Rattle.model.specs.Verdict.{Verdict}
 use Rattle.model.specs.declared.Saved.{Saved}
 use Rattle.model.proofs.Lists.Bools.{or_false}
 use Rattle.model.proofs.Calls.Acceptance.{accepts_held}
@@ -94,7 +92,7 @@ module _ (head : Head) (p : Lent) where
 
   -- What save's tests give to the writers ---------------------------------------------------------------------------------------
 
-  module _ (buffer : List ℕ) (ok : save_check head p buffer ≡ Accepted) where
+  module _ (buffer : List ℕ) (ok : save_check head p buffer ≡ Ok tt) where
     pub save_few : cells_of head ≤ max_cells
     save_few = (save_check_law head p buffer ok).0.placed.few
 
@@ -120,33 +118,19 @@ module _ (head : Head) (p : Lent) where
 
   -- The verdict; v is what the tests of the data said ---------------------------------------------------------------------------
 
-  pub verdict_few : {v : Verdict} → v ≡ acceptance head p → v ≡ Accepted → cells_of head ≤ max_cells
+  pub verdict_few : {v : Verdict} → v ≡ acceptance head p → v ≡ Ok tt → cells_of head ≤ max_cells
   verdict_few e q = (accepts_held head p (sym e ∙ q)).placed.few
-
-  module _ {v : Verdict} (e : v ≡ acceptance head p) (buffer : List ℕ) where
-    pub verdict_refused : {why : Reason} → v ≡ Refused why → Refused why ≡ save_check head p buffer
-    unfolding save_check
-    verdict_refused q = rw (sym e ∙ q)
-
-    -- k is the record's length
-    pub verdict_short : (k : ℕ) → v ≡ Accepted → k ≡ record_length (cells_of head) → length buffer < k → Refused Short ≡ save_check head p buffer
-    unfolding save_check
-    verdict_short k q n l = rw (sym e ∙ q, lt-ltb (length buffer) (record_length (cells_of head)) (omega (arith, n)))
-
-    pub verdict_passes : (k : ℕ) → v ≡ Accepted → k ≡ record_length (cells_of head) → k ≤ length buffer → Accepted ≡ save_check head p buffer
-    unfolding save_check
-    verdict_passes k q n l = rw (sym e ∙ q, le-ltb (length buffer) (record_length (cells_of head)) (omega (arith, n)))
 
   -- The answer; v is save's verdict -----------------------------------------------------------------------------------------------
 
   module _ {v : Verdict} (buffer : List ℕ) (e : v ≡ save_check head p buffer) where
-    pub save_refused : {why : Reason} → v ≡ Refused why → after_save (saved_as head (Length.Refused why)) buffer ≡ saved head p buffer
+    pub save_refused : {why : Reason} → v ≡ Err why → after_save (saved_as head (Err why)) buffer ≡ saved head p buffer
     unfolding saved
     save_refused q = rw (saved, sym e ∙ q)
 
     -- k is the record's length, l the buffer with the record
-    pub save_written : (k : ℕ) (l : List ℕ) → v ≡ Accepted → k ≡ record_length (cells_of head) → l ≡ fronted (record_of head p) buffer
-        → after_save (saved_as head (Length.Bytes k)) l ≡ saved head p buffer
+    pub save_written : (k : ℕ) (l : List ℕ) → v ≡ Ok tt → k ≡ record_length (cells_of head) → l ≡ fronted (record_of head p) buffer
+        → after_save (saved_as head (Ok k)) l ≡ saved head p buffer
     unfolding saved
     save_written k l q n is = rw (saved, sym e ∙ q, n, is)
 
@@ -155,3 +139,6 @@ module _ (head : Head) (p : Lent) where
       → (r ≡ r') × (l ≡ l')
   save_coincides buffer e f =
       let q = coincide e f in (ap (λ (a : AfterSave). a.answer) q, ap (λ (a : AfterSave). a.buffer) q)
+
+-- what save's tests leave
+pub ruleset save_leaves = (save_few, save_room, save_learneds, save_links, save_packable, save_headable)

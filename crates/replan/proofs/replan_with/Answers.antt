@@ -1,67 +1,59 @@
 -- `replan::replan_with` meets its contract: each way out is one law. Assumes nothing.
-use Rattle.replan.proofs.ReplanCases.{held, sized, searchable, plan_there, plan_none, stop_on, steps_small, listed_few, plan_found}
+use Rattle.replan.proofs.ReplanCases.{held, searchable, plan_there, plan_none, stop_on, steps_small, count_room, listed_front, plan_found}
+use Rattle.std.proofs.lemmas.List.{length-take-le}
 use native.Mathlib.Omega.{arith}
-use mathlib.Core.Path.{refl}
+use mathlib.Core.Path.{sym}
 use Rattle.replan.proofs.replan_with.Goals as goal
 
-pub returns-then-head : goal.returns-then-head
-returns-then-head c = plan_there c.requires.passed c.if-head.true
+pub returns-then-head-clause-plan : goal.returns-then-head-clause-plan
+returns-then-head-clause-plan c = rw c.answered.ensures (plan_there c.requires.passed c.if-head.true)
 
 pub search-end-requires : goal.search-end-requires
 search-end-requires c = searchable c.requires
 
-pub returns-then-at-n : goal.returns-then-at-n
-returns-then-at-n c =
-    plan_none c.requires.passed c.search-end.ensures refl c.if-head.false c.if-at-n.true
+pub returns-in_default-clause-plan : goal.returns-in_default-clause-plan
+returns-in_default-clause-plan c =
+    rw c.answered-in_default.ensures (plan_none c.requires.passed c.if-head.false c.search-end.ensures.hunted c.in_default.is)
 
-pub bounds-cost-at : goal.bounds-cost-at
-bounds-cost-at c =
-    omega (
-      arith,
-      stop_on c.requires.passed c.search-end.ensures refl c.if-head.false
-          c.if-at-n.false,
-      (sized c.requires.passed).costs,
-      c.search-end.auto,
-    )
+pub new-plot-requires : goal.new-plot-requires
+new-plot-requires c = (held c.requires.passed).placed.sides
 
 pub bounds-learned-at : goal.bounds-learned-at
 bounds-learned-at c =
     omega (
       arith,
-      stop_on c.requires.passed c.search-end.ensures refl c.if-head.false
-          c.if-at-n.false,
+      stop_on c.requires.passed c.if-head.false c.search-end.ensures.hunted c.in-Some.is,
       (held c.requires.passed).room.learneds,
     )
 
-pub raise-requires : goal.raise-requires
-raise-requires c = (
-  (held c.requires.passed).room.learneds,
-  omega (arith, (sized c.requires.passed).costs, c.search-end.auto),
-  omega (
-    arith,
-    c.requires.space.lists,
-    listed_few c.requires.passed c.search-end.ensures refl c.if-head.false
-        c.if-at-n.false,
-    c.search-end.auto,
-  ),
-  omega (
-    arith,
-    steps_small c.requires.passed c.search-end.ensures refl
-        c.if-head.false c.if-at-n.false,
-  ),
-  c.search-end.ensures.listed,
-)
+pub slice_bounds-improve-end : goal.slice_bounds-improve-end
+slice_bounds-improve-end c =
+    sym (length-take-le _ _ (count_room c.requires.passed c.if-head.false c.search-end.ensures.hunted c.in-Some.is))
 
-pub relink-requires : goal.relink-requires
-relink-requires c = (
-  (held c.requires.passed).placed.sides,
-  stop_on c.requires.passed c.search-end.ensures refl c.if-head.false
-      c.if-at-n.false,
-  omega (arith, (sized c.requires.passed).trails, c.search-end.auto),
-  (held c.requires.passed).room.links,
-)
+pub improve-requires-clause-small : goal.improve-requires-clause-small
+improve-requires-clause-small c =
+    omega (arith, steps_small c.requires.passed c.if-head.false c.search-end.ensures.hunted c.in-Some.is)
 
-pub returns : goal.returns
-returns c =
-    plan_found c.requires.passed c.search-end.ensures refl c.if-head.false
-    c.if-at-n.false _ _ _ refl c.raise.ensures c.relink.ensures
+pub improve-requires-clause-listed : goal.improve-requires-clause-listed
+improve-requires-clause-listed c =
+    let u = c.search-end.ensures.hunted in
+    (_, _, (held c.requires.passed).room.learneds, u.sized.costs, listed_front c.requires.passed c.if-head.false u c.in-Some.is)
+
+pub improve-requires-clause-sized : goal.improve-requires-clause-sized
+improve-requires-clause-sized c =
+    let u = c.search-end.ensures.hunted in
+    let e = c.new-plot.ensures.cells in (
+      omega (arith, e, stop_on c.requires.passed c.if-head.false u c.in-Some.is),
+      omega (arith, e, u.sized.costs),
+      omega (arith, e, u.sized.trails),
+      omega (arith, e, (held c.requires.passed).room.links),
+    )
+
+pub returns-clause-plan : goal.returns-clause-plan
+returns-clause-plan c =
+    let u = c.search-end.ensures.hunted in
+    let e = c.new-plot.ensures.sides in
+    let front = listed_front c.requires.passed c.if-head.false u c.in-Some.is in
+    rw c.answered-2.ensures
+    (plan_found c.requires.passed c.if-head.false u c.in-Some.is _ _ (c.improve.ensures.learned _ _ (held c.requires.passed).room.learneds front)
+    (rw (e.0, e.1) at c.improve.ensures.link))

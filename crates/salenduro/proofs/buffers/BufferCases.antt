@@ -1,36 +1,29 @@
 -- The calls over a host's buffers, case by case: a short head array is refused; else the call's own answer is told as a number,
 -- and the head array set. Every number fits 32 bits. Assumes nothing.
-use mathlib.Core.Path.{◌≡◌, refl, sym, ap, ◌∙◌}
-use mathlib.Core.Bool.{Bool, true, false}
+use Rattle.std.specs.Prelude.{Result, Ok, Err}
+use mathlib.Core.Path.{◌≡◌, sym, ap}
 use mathlib.Core.List.{List}
-use mathlib.Core.Logic.{◌≢◌}
-use Prim.Native.Nat.{ℕ, ◌+◌, ◌≤◌, ◌<◌}
-use native.Mathlib.Omega.{arith}
-use borrow.Author.Tests.{lt-ltb, le-ltb, ltb-true, ltb-false}
+use Prim.Native.Nat.{ℕ, ◌≤◌, ◌<◌}
+use borrow.Author.Tests.{lt-ltb, le-ltb}
 use lib.ListN.{length}
-use Rattle.model.specs.Numbers.{reason_number, verdict_number, refusal, changed_answer, plan_answer, move_answer, save_answer}
+use Rattle.model.specs.Numbers.{length_verdict, refusal, changed_answer, plan_answer, move_answer, given_number}
 use Rattle.model.specs.Lent.{Lent, Scratch, After, after}
-use Rattle.model.specs.Refusals.{too_short}
 use Rattle.model.specs.Report.{reported}
 use Rattle.model.specs.Plan.{after_plan, planned}
 use Rattle.model.specs.Move.{moved}
-use Rattle.model.specs.Listing.{list_check, listed, list_question}
+use Rattle.model.specs.Listing.{AfterList, list_check, listed, list_question}
 use Rattle.model.specs.Store.{after_save, saved}
 use Rattle.model.specs.declared.Head.{Head}
 use Rattle.model.specs.declared.Reason.{Reason}
 use Rattle.model.specs.declared.Reason.TheVariants.{Short}
-use Rattle.model.specs.declared.Verdict.{Verdict}
-use Rattle.model.specs.declared.Verdict.TheVariants.{Accepted, Refused}
 use Rattle.model.specs.declared.Changed.{Changed}
 use Rattle.model.specs.declared.Planned.{Planned}
 use Rattle.model.specs.declared.Moved.{Moved}
 use Rattle.model.specs.declared.Saved.{Saved}
-use Rattle.model.proofs.Calls.ListLaws.{list_leaves, question_exactly}
-use Rattle.calls.specs.RouteWritten.{RouteFilled}
+use Rattle.calls.specs.Counted.{Counted, count_in}
 use Rattle.salenduro.specs.Heads.{head_size, head_in, head_set}
 use Rattle.salenduro.specs.Buffers.{unless_short, AfterHost, AfterHostPlan, AfterHostFill, after_host, after_host_plan, after_host_fill, headed}
 use Rattle.salenduro.specs.Buffers.{count_after, cell_after, reported_host, planned_host, moved_host, listed_host, question_host, saved_host}
-use Rattle.salenduro.proofs.AnswersFit.{question_fits}
 
 -- Refused for a short head array ---------------------------------------------------------------------------------------------------
 
@@ -72,12 +65,12 @@ module _ (head : List ℕ) (p : Lent) (enough : head_size ≤ length head) {n : 
     unfolding moved_host
     move_called d e f = rw (moved_host, le-ltb (length head) head_size enough, ← read, ← d, e, f)
 
-    pub save_called : (bytes : List ℕ) {r : Saved} {bytes' : List ℕ} → after_save r bytes' ≡ saved from p bytes → n ≡ save_answer r.length
+    pub save_called : (bytes : List ℕ) {r : Saved} {bytes' : List ℕ} → after_save r bytes' ≡ saved from p bytes → n ≡ given_number r.length
         → after_host_fill n bytes' ≡ saved_host head p bytes
     unfolding saved_host
     save_called bytes d f = rw (saved_host, le-ltb (length head) head_size enough, ← read, ← d, f)
 
--- The question, and list, which it decides ------------------------------------------------------------------------------------------
+-- The question ------------------------------------------------------------------------------------------------------------------------
 
 module _ (head : List ℕ) (p : Lent) (buffer : List ℕ) where
   pub question_short : length head < head_size → question_host head p buffer ≡ 2
@@ -88,55 +81,13 @@ module _ (head : List ℕ) (p : Lent) (buffer : List ℕ) where
   unfolding question_host
   question_called enough = rw (question_host, le-ltb (length head) head_size enough)
 
-  number_why : {why : Reason} → list_check (head_in head) p buffer ≡ Refused why → list_question (head_in head) p buffer ≡ reason_number why
-  unfolding list_question
-  number_why q = ap verdict_number q
+-- List, by what its count says: r is that answer, and l the buffer afterwards
+module _ (head : List ℕ) (p : Lent) (buffer : List ℕ) (enough : head_size ≤ length head) {from : Head} (read : from ≡ head_in head) where
+  left : {k : ℕ} {l : List ℕ} → Counted from p buffer k l → (listed from p buffer).buffer ≡ l
+  left c = ap (λ (a : AfterList). a.buffer) (sym c.leaves)
 
-  list_short : length head < head_size → after_host_fill (refusal Short) buffer ≡ listed_host head p buffer
+  pub list_called : (r : Result ℕ Reason) {l : List ℕ} → length_verdict r ≡ list_check from p buffer → Counted from p buffer (count_in r) l
+      → {n : ℕ} → n ≡ given_number r → after_host_fill n l ≡ listed_host head p buffer
   unfolding listed_host
-  list_short few = rw (listed_host, lt-ltb (length head) head_size few)
-
-  list_undone : head_size ≤ length head → {why : Reason} → list_check (head_in head) p buffer ≡ Refused why
-      → after_host_fill (refusal why) buffer ≡ listed_host head p buffer
-  unfolding listed_host
-  list_undone enough q = rw (listed_host, le-ltb (length head) head_size enough, q, (list_leaves (head_in head) p buffer q).1)
-
-  list_done : head_size ≤ length head → list_check (head_in head) p buffer ≡ Accepted → {k : ℕ} {l : List ℕ} → RouteFilled (head_in head) p buffer k l
-      → after_host_fill k l ≡ listed_host head p buffer
-  unfolding listed_host listed
-  list_done enough q f = rw (listed_host, le-ltb (length head) head_size enough, listed, q, f.count, f.is)
-
-  -- n is what the question answered
-  module _ {n : ℕ} (e : n ≡ question_host head p buffer) where
-    pub asked_fits : n < 9
-    asked_fits = go _ refl
-      where
-        go : (b : Bool) → too_short head_size head ≡ b → n < 9
-        go true t = omega (arith, e, question_short (ltb-true (length head) head_size t))
-        go false t = question_fits (head_in head) p buffer (e ∙ question_called (ltb-false (length head) head_size t))
-
-    pub list_refused : n ≢ 0 → after_host_fill (70000 + n) buffer ≡ listed_host head p buffer
-    list_refused some = go _ _ refl refl
-      where
-        go : (b : Bool) (v : Verdict) → too_short head_size head ≡ b → list_check (head_in head) p buffer ≡ v
-            → after_host_fill (70000 + n) buffer ≡ listed_host head p buffer
-        go true v t q = let few = ltb-true (length head) head_size t in rw (e ∙ question_short few) (list_short few)
-        go false Accepted t q =
-            absurd (some (e ∙ question_called (ltb-false (length head) head_size t) ∙ (question_exactly (head_in head) p buffer).1 q))
-        go false (Refused why) t q =
-            let enough = ltb-false (length head) head_size t in rw (e ∙ question_called enough ∙ number_why q) (list_undone enough q)
-
-    module _ (none : n ≡ 0) where
-      pub list_enough : head_size ≤ length head
-      list_enough = go _ refl
-        where
-          go : (b : Bool) → too_short head_size head ≡ b → head_size ≤ length head
-          go true t = absurd (omega (arith, e, question_short (ltb-true (length head) head_size t)))
-          go false t = ltb-false (length head) head_size t
-
-      pub list_may : {from : Head} → from ≡ head_in head → list_check from p buffer ≡ Accepted
-      list_may read = rw read ((question_exactly (head_in head) p buffer).0 (sym (question_called list_enough) ∙ sym e ∙ none))
-
-      pub list_called : {from : Head} → from ≡ head_in head → {k : ℕ} {l : List ℕ} → RouteFilled from p buffer k l
-          → after_host_fill k l ≡ listed_host head p buffer
-      list_called read f = list_done list_enough (list_may refl) (rw read at f)
+  list_called (Ok k) v c e = rw (listed_host, le-ltb (length head) head_size enough, ← read, ← v, left c, ← c.count, e)
+  list_called (Err why) v c e = rw (listed_host, le-ltb (length head) head_size enough, ← read, ← v, left c, e)

@@ -1,5 +1,6 @@
 -- A host tells a refusal by its number: one of 70,000 or more is a refusal's, and every list that was lent stays as it was.
 -- Assumes nothing.
+use Rattle.std.specs.Prelude.{Ok, Err}
 use mathlib.Core.Path.{◌≡◌, refl, ap}
 use mathlib.Core.Bool.{Bool, true, false, cond}
 use mathlib.Core.List.{List}
@@ -8,12 +9,11 @@ use native.Mathlib.Omega.{arith}
 use lib.ListN.{length}
 use Rattle.model.specs.Lent.{Lent, Scratch, After}
 use Rattle.model.specs.Refusals.{too_short}
-use Rattle.model.specs.Numbers.{changed_answer, plan_answer, move_answer, save_answer}
+use Rattle.model.specs.Numbers.{changed_answer, plan_answer, move_answer, given_number}
 use Rattle.model.specs.Plan.{AfterPlan, planned}
 use Rattle.model.specs.Listing.{list_check, listed}
 use Rattle.model.specs.Store.{AfterSave}
-use Rattle.model.specs.declared.Verdict.{Verdict}
-use Rattle.model.specs.declared.Verdict.TheVariants.{Accepted, Refused}
+use Rattle.model.specs.Verdict.{Verdict}
 use Rattle.model.specs.declared.Changed.{Changed}
 use Rattle.model.specs.declared.Moved.{Moved}
 use Rattle.model.proofs.Calls.LayoutLaws.{LayingOut, layout_refused, layout_laid, layout_is}
@@ -97,7 +97,7 @@ module _ (head : List ℕ) (p : Lent) where
   unfolding saved_host
   save_stays bytes = either (FillStays bytes) head _ _ (λ _. refl) (go (save_is (head_in head) p bytes))
     where
-      go : {r : AfterSave} → Saving (head_in head) p bytes r → FillStays bytes (after_host_fill (save_answer r.answer.length) r.buffer)
+      go : {r : AfterSave} → Saving (head_in head) p bytes r → FillStays bytes (after_host_fill (given_number r.answer.length) r.buffer)
       go (save_refused e) l = refl
       go (save_wrote a w) l = absurd (omega (arith, a.placed.few))
 
@@ -107,5 +107,5 @@ module _ (head : List ℕ) (p : Lent) where
     where
       go : (v : Verdict) → list_check (head_in head) p buffer ≡ v
           → FillStays buffer (after_host_fill (list_answer v (length (listed (head_in head) p buffer).front)) (listed (head_in head) p buffer).buffer)
-      go Accepted e l = absurd (omega (arith, (list_writes (head_in head) p buffer e).long, list_few (head_in head) p buffer e))
-      go (Refused why) e l = (list_leaves (head_in head) p buffer e).1
+      go (Ok _) e l = absurd (omega (arith, (list_writes (head_in head) p buffer e).long, list_few (head_in head) p buffer e))
+      go (Err why) e l = (list_leaves (head_in head) p buffer e).1

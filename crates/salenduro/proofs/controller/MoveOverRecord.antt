@@ -1,5 +1,6 @@
 -- Move over a record: what load read is accepted, the step decides, and what the core leaves is written.
 -- Assumes nothing.
+use Rattle.std.specs.Prelude.{Ok, Err, Result}
 use mathlib.Core.Path.{◌≡◌, refl, sym, ap, ◌∙◌}
 use mathlib.Core.List.{List}
 use Prim.Native.Nat.{ℕ, ◌<◌}
@@ -15,8 +16,7 @@ use Rattle.model.specs.Ways.{Accepts}
 use Rattle.model.specs.Controller.{after_c, moved_c}
 use Rattle.model.specs.declared.Head.{Head}
 use Rattle.model.specs.declared.Reason.{Reason}
-use Rattle.model.specs.declared.Verdict.{Verdict}
-use Rattle.model.specs.declared.Verdict.TheVariants.{Accepted, Refused}
+use Rattle.model.specs.Verdict.{Verdict}
 use Rattle.model.specs.declared.Moved.{Moved}
 use Rattle.model.specs.declared.Step.{Step}
 use Rattle.model.specs.Fit.{Held}
@@ -25,15 +25,15 @@ use Rattle.model.proofs.Calls.MoveLaws.{move_keeps}
 use Rattle.salenduro.proofs.controller.RecordRead.{Read}
 use Rattle.salenduro.proofs.controller.RecordRewritten.{record_undone, record_done, may_write, all_written}
 
-was_moved : (cell : ℕ) (s : Step) → step_verdict s ≡ Accepted → move_answer cell s ≡ cell
-was_moved cell Step.Moved e = refl
-was_moved cell Step.Arrived e = refl
-was_moved cell (Step.Refused why) e = absurd (not_both refl e)
+was_moved : (cell : ℕ) (s : Result Step Reason) → step_verdict s ≡ Ok tt → move_answer cell s ≡ cell
+was_moved cell (Ok Step.Moved) e = refl
+was_moved cell (Ok Step.Arrived) e = refl
+was_moved cell (Err why) e = absurd (not_both refl e)
 
-not_moved : (cell : ℕ) (s : Step) {why : Reason} → step_verdict s ≡ Refused why → move_answer cell s ≡ refusal why
-not_moved cell Step.Moved e = absurd (not_both e refl)
-not_moved cell Step.Arrived e = absurd (not_both e refl)
-not_moved cell (Step.Refused other) {why} e = let q : other ≡ why = cc in ap refusal q
+not_moved : (cell : ℕ) (s : Result Step Reason) {why : Reason} → step_verdict s ≡ Err why → move_answer cell s ≡ refusal why
+not_moved cell (Ok Step.Moved) e = absurd (not_both e refl)
+not_moved cell (Ok Step.Arrived) e = absurd (not_both e refl)
+not_moved cell (Err other) {why} e = let q : other ≡ why = cc in ap refusal q
 
 module _ (bytes : List ℕ) where
   module _ {head : Head} {p : Lent} (r : Read bytes head p) where
@@ -50,7 +50,7 @@ module _ (bytes : List ℕ) where
       lists : q ≡ (moved head p).lists
       lists = ap (λ (a : After Moved). a.lists) d
 
-      pub move_undone : {n : ℕ} {v : Verdict} {why : Reason} → n ≡ refusal why → v ≡ step_verdict done.step → v ≡ Refused why
+      pub move_undone : {n : ℕ} {v : Verdict} {why : Reason} → n ≡ refusal why → v ≡ step_verdict done.step → v ≡ Err why
           → after_c n bytes ≡ moved_c bytes
       unfolding moved_c
       move_undone k e f =
@@ -63,7 +63,7 @@ module _ (bytes : List ℕ) where
       move_long : length bytes ≡ record_length (cells_of done.head)
       move_long = let k = (move_keeps head p).same_plot in rw (heads, k.0, k.1) r.long
 
-      pub move_writes : save_check done.head q bytes ≡ Accepted
+      pub move_writes : save_check done.head q bytes ≡ Ok tt
       move_writes = may_write done.head q bytes move_held move_long
 
       -- every cell that the heads name fits 32 bits
@@ -73,7 +73,7 @@ module _ (bytes : List ℕ) where
           let then = r.held.placed in
           (omega (arith, now.cart_on, now.few), omega (arith, now.goal_on, now.few), omega (arith, then.cart_on, then.few))
 
-      pub move_done : {bytes' : List ℕ} {answer : ℕ} {v : Verdict} → v ≡ step_verdict done.step → v ≡ Accepted
+      pub move_done : {bytes' : List ℕ} {answer : ℕ} {v : Verdict} → v ≡ step_verdict done.step → v ≡ Ok tt
           → bytes' ≡ fronted (record_of done.head q) bytes → answer ≡ done.head.cell
           → after_c answer bytes' ≡ moved_c bytes
       unfolding moved_c

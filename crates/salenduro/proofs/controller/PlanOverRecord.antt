@@ -1,5 +1,6 @@
 -- Plan over a record: what load read is accepted, there is room for every plot, and what the core leaves is written.
 -- Assumes nothing.
+use Rattle.std.specs.Prelude.{Ok}
 use mathlib.Core.Path.{◌≡◌, refl, sym, ap, ◌∙◌}
 use mathlib.Core.Bool.{false}
 use mathlib.Core.List.{List, ◌++◌}
@@ -17,7 +18,6 @@ use Rattle.model.specs.Store.{save_check}
 use Rattle.model.specs.Plan.{AfterPlan, after_plan, plan_check, planned}
 use Rattle.model.specs.Controller.{own_scratch, AfterC, after_c, state_in, planned_c}
 use Rattle.model.specs.declared.Head.{Head}
-use Rattle.model.specs.declared.Verdict.TheVariants.{Accepted}
 use Rattle.model.specs.declared.Planned.{Planned}
 use Rattle.model.specs.declared.Outcome.{Outcome}
 use Rattle.model.specs.Fit.{Held}
@@ -36,7 +36,7 @@ own_scratch_law n p l e = rw (le-ltb (length own_scratch.mark) n (omega (arith, 
 
 module _ (bytes : List ℕ) where
   module _ {head : Head} {p : Lent} (r : Read bytes head p) where
-    plan_accepted : plan_check head p own_scratch ≡ Accepted
+    plan_accepted : plan_check head p own_scratch ≡ Ok tt
     unfolding plan_check
     plan_accepted =
         let a = r.held in
@@ -56,14 +56,14 @@ module _ (bytes : List ℕ) where
       outcomes : done.outcome ≡ (planned head p own_scratch).answer.outcome
       outcomes = ap (λ (a : AfterPlan). a.answer.outcome) d
 
-      pub plan_writes : save_check head q bytes ≡ Accepted
+      pub plan_writes : save_check head q bytes ≡ Ok tt
       plan_writes = may_write head q bytes plan_held r.long
 
       -- the core refuses nothing
-      plan_taken : outcome_verdict (planned head p own_scratch).answer.outcome ≡ Accepted
+      plan_taken : outcome_verdict (planned head p own_scratch).answer.outcome ≡ Ok tt
       plan_taken = go _ refl
         where
-          go : (o : Outcome) → (planned head p own_scratch).answer.outcome ≡ o → outcome_verdict o ≡ Accepted
+          go : (o : Outcome) → (planned head p own_scratch).answer.outcome ≡ o → outcome_verdict o ≡ Ok tt
           go (Outcome.Route len) e = refl
           go Outcome.NoWay e = refl
           go Outcome.Arrived e = refl
@@ -76,7 +76,7 @@ module _ (bytes : List ℕ) where
           let t = planned (head_of bytes) (state_in bytes) own_scratch in
           let o = t.answer.outcome in
           let same : done.outcome ≡ o = rw (← r.states, ← r.heads) outcomes in
-          let taken : outcome_verdict o ≡ Accepted = rw (← r.states, ← r.heads) plan_taken in
+          let taken : outcome_verdict o ≡ Ok tt = rw (← r.states, ← r.heads) plan_taken in
           let is = record_done bytes (outcome_verdict o) (plan_answer o) t.answer.head t.lists r.accepted taken in
           rw (same, ap (λ (a : AfterC). a.answer) is) ((plan_on_record bytes).done r.accepted taken)
 

@@ -2,7 +2,7 @@
 -- Assumes nothing.
 use mathlib.Core.Path.{◌≡◌, sym, ap, ◌∙◌}
 use mathlib.Core.List.{List}
-use Prim.Native.Nat.{ℕ, ◌≤◌, ◌<◌}
+use Prim.Native.Nat.{ℕ, ◌<◌}
 use native.Mathlib.Omega.{arith}
 use lib.ListN.{get_or, set}
 use lib.Seq.{get_or-set_same, set-get_or}
@@ -10,10 +10,10 @@ use Rattle.model.specs.Lists.{filled, each}
 use Rattle.model.specs.Lent.{Scratch, scratch_with}
 use Rattle.model.specs.Search.{unseen_cost, begun}
 use Rattle.model.proofs.Lists.Filled.{length_filled, filled_at, filled_again, filled_over}
-use Rattle.queue.specs.Queue.{key_of, none, Absent, Lowered}
+use Rattle.queue.specs.Queue.{key_of, Lowered}
 use Rattle.queue.proofs.Gaps.{room_heap}
 use Rattle.search.specs.Waiting.{Queued, Did}
-use Rattle.search.proofs.expand.LookLaws.{key_none, comes_in, queued_reached}
+use Rattle.search.proofs.expand.LookLaws.{key_none, queued_reached}
 use Rattle.search.specs.Begin.{CanBegin}
 
 -- `begun` is idempotent -----------------------------------------------------------------------------------------------
@@ -60,9 +60,6 @@ module _ {n cell : ℕ} {l : List ℕ} {s : Scratch} {h q : List ℕ} (a : CanBe
   }
 
   module _ (k : ℕ) (e : k ≡ key_of 0 (get_or l cell 0) cell) where
-    pub cart_absent : k ≤ none → Absent n 0 (set h 0 0) q k
-    cart_absent fits = comes_in unseen_queued cell 0 k a.inside e fits (λ w. omega (arith, w, blank cell a.inside))
-
     pub cart_waits : (h' q' : List ℕ) → Lowered n 0 (set h 0 0) q k 1 h' q'
         → Did n l (begun n cell s) (scratch_with (set m cell 1) (set g cell 0) t) 1 h' q'
     unfolding begun

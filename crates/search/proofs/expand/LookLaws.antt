@@ -8,11 +8,15 @@ use native.Mathlib.Numerals.{add-one}
 use native.Mathlib.Omega.{arith}
 use borrow.Author.Tests.{eq-eqb, ne_eqb, lt-ltb, le-ltb, ltb-true}
 use lib.Dec.{ltb}
-use lib.ListN.{get_or, length, set, length-set}
+use lib.ListN.{get_or, set, length-set}
 use lib.Seq.{get_or-set_same, get_or-set_other}
 use Rattle.model.specs.Plot.{cells, ahead, free, allowed}
 use Rattle.model.specs.Lent.{Scratch, scratch_with}
 use Rattle.model.specs.Search.{reached, looked, expanded}
+use Rattle.std.specs.Prelude.{Some, None}
+use Rattle.grid.specs.declared.plot.Plot.{Plot}
+use Rattle.grid.specs.CellOn.{cell_on}
+use Rattle.grid.proofs.CellLaws.{some_on, none_off}
 use Rattle.queue.specs.Queue.{key_of, none, Absent, Waits, Lowered, Popped}
 use Rattle.queue.proofs.KeyOrder.{key_cell}
 use Rattle.search.specs.Waiting.{key_for, looked_at, looks_to, Queued, Did}
@@ -154,52 +158,43 @@ module _ (w h : ℕ) (ground : List ℕ) (c : ℕ) (f : free ground c ≡ true) 
 
 -- On the way through the directions ------------------------------------------------------------------------------------------------
 
--- after k directions
-pub record Looking (w h : ℕ) (ground learned : List ℕ) (c : ℕ) (s : Scratch) (h₀ q₀ : List ℕ) (k : ℕ) (t : Scratch) (len : ℕ)
-    (heap place : List ℕ) : Type 0 where
-  pub upto : k ≤ 4
-  pub is : t ≡ looks_to w h ground c k s
-  pub queued : Queued (cells w h) learned t len heap place
-  pub mark_same : length t.mark ≡ length s.mark
-  pub cost_same : length t.cost ≡ length s.cost
-  pub trail_same : length t.trail ≡ length s.trail
-  pub heap_same : length heap ≡ length h₀
-  pub place_same : length place ≡ length q₀
+-- cell c is marked, and looks in direction d next
+pub record Looking (p : Plot) (ground learned : List ℕ) (c : ℕ) (s : Scratch) (d : ℕ) (t : Scratch) (n len : ℕ) (heap place : List ℕ) : Type 0 where
+  pub is : t ≡ looks_to p.width p.height ground c (d - 1) s
+  pub queued : Queued n learned t len heap place
+  pub count : n ≡ p.cells
 
-module _ {w h : ℕ} {ground learned : List ℕ} {c : ℕ} {s : Scratch} {h₀ q₀ : List ℕ} where
-  pub looks_begin : (len : ℕ) → Queued (cells w h) learned s len h₀ q₀ → Looking w h ground learned c s h₀ q₀ 0 s len h₀ q₀
+module _ (p : Plot) {ground learned : List ℕ} {c : ℕ} {s : Scratch} {n : ℕ} where
+  pub looks_begin : {len : ℕ} {h q : List ℕ} → n ≡ p.cells → Queued n learned s len h q → Looking p ground learned c s 1 s n len h q
   unfolding looks_to
-  looks_begin len a = record {
-    upto = omega arith;
-    is = refl;
-    queued = a;
-    mark_same = refl;
-    cost_same = refl;
-    trail_same = refl;
-    heap_same = refl;
-    place_same = refl;
-  }
+  looks_begin k a = record { is = refl; queued = a; count = k }
 
-  pub looks_on : {k : ℕ} {t : Scratch} {len : ℕ} {heap place : List ℕ} (y g : ℕ) (u : Scratch) (len' : ℕ) (heap' place' : List ℕ)
-      → Looking w h ground learned c s h₀ q₀ k t len heap place → k < 4 → free ground c ≡ true → g ≡ get_or s.cost c 0 + 1 → y ≡ ahead w h c (k + 1)
-      → Did (cells w h) learned (looked_at ground (cells w h) y g (k + 1) t) u len' heap' place'
-      → length u.mark ≡ length t.mark → length u.cost ≡ length t.cost → length u.trail ≡ length t.trail → length heap' ≡ length heap
-      → length place' ≡ length place
-      → Looking w h ground learned c s h₀ q₀ (k + 1) u len' heap' place'
-  looks_on {k} {t} y g u len' heap' place' a l f e q d b₁ b₂ b₃ b₄ b₅ = record {
-    upto = omega arith;
-    is = look_next w h ground c f k g y s t u e q a.is d.is;
-    queued = d.queued;
-    mark_same = b₁ ∙ a.mark_same;
-    cost_same = b₂ ∙ a.cost_same;
-    trail_same = b₃ ∙ a.trail_same;
-    heap_same = b₄ ∙ a.heap_same;
-    place_same = b₅ ∙ a.place_same;
-  }
+  module _ {d : ℕ} {t : Scratch} {len : ℕ} {heap place : List ℕ} (a : Looking p ground learned c s d t n len heap place) (low : 1 ≤ d)
+      (f : free ground c ≡ true) (g : ℕ) (e : g ≡ get_or s.cost c 0 + 1) where
+    looks_next : (u : Scratch) → u ≡ looked_at ground (cells p.width p.height) (ahead p.width p.height c d) g d t
+        → u ≡ looks_to p.width p.height ground c (d + 1 - 1) s
+    looks_next u r =
+        let q : d - 1 + 1 ≡ d = omega arith in
+        let z : d + 1 - 1 ≡ d - 1 + 1 = omega arith in
+        rw z (look_next p.width p.height ground c f (d - 1) g (ahead p.width p.height c d) s t u e (rw q refl) a.is (rw q r))
+
+    -- the direction leads to a cell, or off the plot
+    pub looks_on : (y : ℕ) (u : Scratch) (len' : ℕ) (heap' place' : List ℕ) → Some y ≡ cell_on p.cells (ahead p.width p.height c d)
+        → Did n learned (looked_at ground n y g d t) u len' heap' place' → Looking p ground learned c s (d + 1) u n len' heap' place'
+    looks_on y u len' heap' place' o r =
+        let z : n ≡ cells p.width p.height = omega (arith, a.count, p.product) in
+        record { is = looks_next u (rw (z, (some_on o).same) at r.is); queued = r.queued; count = a.count }
+
+    pub looks_off : None ≡ cell_on p.cells (ahead p.width p.height c d) → Looking p ground learned c s (d + 1) t n len heap place
+    looks_off o = record {
+      is = looks_next t (look_off ground (cells p.width p.height) (ahead p.width p.height c d) g d t (omega (arith, p.product, none_off o)));
+      queued = a.queued;
+      count = a.count;
+    }
 
 -- four directions from the marked cell are an expansion
-pub looks_done : {w h : ℕ} {ground learned : List ℕ} {c : ℕ} {h₀ q₀ : List ℕ} (s : Scratch) {k : ℕ} {t : Scratch} {len : ℕ} {heap place : List ℕ}
-    → Looking w h ground learned c (scratch_with (set s.mark c 2) s.cost s.trail) h₀ q₀ k t len heap place → 4 ≤ k
-    → Did (cells w h) learned (expanded w h ground c s) t len heap place
+pub looks_done : (p : Plot) {ground learned : List ℕ} {c : ℕ} (s : Scratch) {d : ℕ} {t : Scratch} {n len : ℕ} {heap place : List ℕ}
+    → Looking p ground learned c (scratch_with (set s.mark c 2) s.cost s.trail) d t n len heap place → d ≡ 5
+    → Did n learned (expanded p.width p.height ground c s) t len heap place
 unfolding expanded looks_to
-looks_done s {k = k} a l = let e : k ≡ 4 = omega (arith, a.upto) in record { is = rw e at a.is; queued = a.queued }
+looks_done p s a e = record { is = rw e at a.is; queued = a.queued }

@@ -1,25 +1,47 @@
--- `turn::unknown_ahead` meets its contract: off the plot, free, known, or unknown. Assumes nothing.
-use Rattle.turn.proofs.SightingLaws.{off_plot, free_there, known_there, unknown_there}
-use Rattle.model.proofs.Calls.Acceptance.{cells_few, row_within}
-use native.Mathlib.Omega.{arith}
-use mathlib.Core.Path.{refl}
+-- `turn::unknown_ahead` meets its contract: off the plot, free, known, or unknown (`SightingLaws`). Assumes nothing.
+use Rattle.turn.proofs.SightingLaws.{on_head, none_ahead, free_there, known_there, unknown_there}
+use Rattle.grid.proofs.CellLaws.{some_on}
+use Rattle.std.proofs.Common.{arith, sym, ◌∙◌}
 use Rattle.turn.proofs.unknown_ahead.Goals as goal
 
-pub ahead-c-requires : goal.ahead-c-requires
-ahead-c-requires c =
-    let p = c.requires in
-    (p.cells, p.cart_on, omega (arith, p.cells, cells_few _ _ p.sides), omega (arith, p.cells, row_within _ _ p.sides), refl)
+pub returns-in_err-c : goal.returns-in_err-c
+returns-in_err-c c =
+    let plot = c.new-plot in
+    let sides = plot.ensures.sides in
+    let step = on_head c.args.head c.args.d sides.0 sides.1 plot.result.product c.ahead.ensures in
+    c.from_residual.ensures ∙ none_ahead _ _ _ _ (sym c.in_err-c.was ∙ step)
 
-pub returns-then-n-c : goal.returns-then-n-c
-returns-then-n-c c = off_plot _ _ _ _ c.requires.cells c.ahead-c.ensures c.if-n-c.true
+pub bounds-truth-c : goal.bounds-truth-c
+bounds-truth-c c =
+    let plot = c.new-plot in
+    let sides = plot.ensures.sides in
+    let step = on_head c.args.head c.args.d sides.0 sides.1 plot.result.product c.ahead.ensures in
+    omega (arith, c.requires.truths, (some_on (sym c.in_ok-c.was ∙ step)).inside)
 
 pub returns-then-truth-c-ne1 : goal.returns-then-truth-c-ne1
-returns-then-truth-c-ne1 c = free_there _ _ _ _ c.requires.cells c.ahead-c.ensures c.if-truth-c-ne1.true
+returns-then-truth-c-ne1 c =
+    let plot = c.new-plot in
+    let sides = plot.ensures.sides in
+    let step = on_head c.args.head c.args.d sides.0 sides.1 plot.result.product c.ahead.ensures in
+    free_there _ _ _ _ (sym c.in_ok-c.was ∙ step) c.if-truth-c-ne1.true
+
+pub bounds-ground-c : goal.bounds-ground-c
+bounds-ground-c c =
+    let plot = c.new-plot in
+    let sides = plot.ensures.sides in
+    let step = on_head c.args.head c.args.d sides.0 sides.1 plot.result.product c.ahead.ensures in
+    omega (arith, c.requires.grounds, (some_on (sym c.in_ok-c.was ∙ step)).inside)
 
 pub returns-then-ground-c-ne0 : goal.returns-then-ground-c-ne0
-returns-then-ground-c-ne0 c = known_there _ _ _ _ c.requires.cells c.ahead-c.ensures c.if-ground-c-ne0.true
+returns-then-ground-c-ne0 c =
+    let plot = c.new-plot in
+    let sides = plot.ensures.sides in
+    let step = on_head c.args.head c.args.d sides.0 sides.1 plot.result.product c.ahead.ensures in
+    known_there _ _ _ _ (sym c.in_ok-c.was ∙ step) c.if-ground-c-ne0.true
 
 pub returns : goal.returns
 returns c =
-    unknown_there _ _ _ _ c.requires.cells c.ahead-c.ensures c.if-n-c.false
-    c.if-truth-c-ne1.false c.if-ground-c-ne0.false
+    let plot = c.new-plot in
+    let sides = plot.ensures.sides in
+    let step = on_head c.args.head c.args.d sides.0 sides.1 plot.result.product c.ahead.ensures in
+    unknown_there _ _ _ _ (sym c.in_ok-c.was ∙ step) c.if-truth-c-ne1.false c.if-ground-c-ne0.false

@@ -2,5 +2,5 @@
 use Rattle.calls.proofs.RefusedCases.{move_refused}
 use Rattle.calls.proofs.advance.advance.Goals as goal
 
-pub returns-in-Refused : goal.returns-in-Refused
-returns-in-Refused c = move_refused c.in-Refused.is _ _ c.acceptance-verdict.ensures
+pub returns-in-Err : goal.returns-in-Err
+returns-in-Err c = move_refused c.in-Err.is _ _ c.acceptance.ensures

@@ -1,43 +1,50 @@
 -- `calls::advance::onward` meets its contract: at each return the tests that led there pick the case of `moved` (`MoveCases`). Assumes nothing.
-use mathlib.Core.Path.{refl}
+use Rattle.std.proofs.Common.{rules}
+use mathlib.Core.Path.{refl, sym, ◌∙◌}
 use native.Mathlib.Omega.{arith}
-use Rattle.model.proofs.Calls.Acceptance.{side_wide, cells_few, row_within}
+use Rattle.model.proofs.Calls.Acceptance.{side_wide}
+use Rattle.model.proofs.Grid.RouteLaws.{leads_ahead}
+use Rattle.grid.proofs.CellLaws.{on_plot, some_on}
 use Rattle.calls.proofs.advance.MoveCases.{accepts_walkable, move_there, move_lost, move_goes}
 use Rattle.calls.proofs.advance.onward.Goals as goal
 
-pub returns-then-cell-goal : goal.returns-then-cell-goal
-returns-then-cell-goal c = move_there _ _ c.requires c.if-cell-goal.true
+pub returns-then-cell-head : goal.returns-then-cell-head
+returns-then-cell-head c = move_there _ _ c.requires c.if-cell-head.true
+
+pub new-plot-requires : goal.new-plot-requires
+new-plot-requires c = (accepts_walkable _ _ c.requires).sides
 
 pub leads-requires : goal.leads-requires
-leads-requires c = accepts_walkable _ _ c.requires
+leads-requires c = rw (c.new-plot.ensures.sides.0, c.new-plot.ensures.sides.1) (accepts_walkable _ _ c.requires)
 
 pub returns-then-not-leads : goal.returns-then-not-leads
 returns-then-not-leads c =
-    move_lost _ _ c.requires _ c.if-cell-goal.false c.leads.ensures
-    c.if-not-leads.true
+    move_lost _ _ c.requires _ c.if-cell-head.false
+    (rw (c.new-plot.ensures.sides.0, c.new-plot.ensures.sides.1) at c.leads.ensures) c.if-not-leads.true
+
+pub nonzero_rem-cell : goal.nonzero_rem-cell
+nonzero_rem-cell c = rw c.new-plot.ensures.sides.0 (side_wide _ _ (accepts_walkable _ _ c.requires).sides)
 
 pub bounds-link-cell : goal.bounds-link-cell
 bounds-link-cell c = omega (arith, (accepts_walkable _ _ c.requires).inside, (accepts_walkable _ _ c.requires).links)
 
-pub overflow_mul-width : goal.overflow_mul-width
-overflow_mul-width c = omega (arith, cells_few _ _ (accepts_walkable _ _ c.requires).sides)
-
-pub nonzero_rem-cell : goal.nonzero_rem-cell
-nonzero_rem-cell c = side_wide _ _ (accepts_walkable _ _ c.requires).sides
-
-pub ahead-next-requires : goal.ahead-next-requires
-ahead-next-requires c = (
-  refl,
-  (accepts_walkable _ _ c.requires).inside,
-  omega (arith, cells_few _ _ (accepts_walkable _ _ c.requires).sides),
-  row_within _ _ (accepts_walkable _ _ c.requires).sides,
+pub ahead-requires : goal.ahead-requires
+ahead-requires c = (
+  rw (c.new-plot.result.product, c.new-plot.ensures.sides.0, c.new-plot.ensures.sides.1) (accepts_walkable _ _ c.requires).inside,
   refl,
 )
+
+pub unwrap-next-requires : goal.unwrap-next-requires
+unwrap-next-requires c =
+    let inside = leads_ahead _ _ _ _ _ _ _ (sym c.leads.ensures ∙ c.if-not-leads.false) c.if-cell-head.false in
+    rw (c.ahead.ensures ∙ sym (on_plot _ _ (rw c.new-plot.result.product inside))) (search rules)
 
 pub bounds-link-cell-2 : goal.bounds-link-cell-2
 bounds-link-cell-2 c = omega (arith, (accepts_walkable _ _ c.requires).inside, (accepts_walkable _ _ c.requires).links)
 
 pub returns : goal.returns
 returns c =
-    move_goes _ _ c.requires _ _ _ c.if-cell-goal.false c.leads.ensures
-    c.if-not-leads.false c.ahead-next.ensures c.moved_to.ensures
+    move_goes _ _ c.requires _ _ _ c.if-cell-head.false
+    (rw (c.new-plot.ensures.sides.0, c.new-plot.ensures.sides.1) at c.leads.ensures)
+    c.if-not-leads.false
+    (rw (c.new-plot.ensures.sides.0, c.new-plot.ensures.sides.1) at (some_on (sym c.unwrap-next.ensures ∙ c.ahead.ensures)).same) c.moved_to.ensures

@@ -1,10 +1,6 @@
 -- `calls::layout::fill_row` meets its contract: before each iteration the first `k` columns have their distances (`RowDistances`). Assumes nothing.
 use Rattle.calls.proofs.layout.RowDistances.{RowFilled}
-use Prim.Native.Nat.{◌≤◌, ◌-◌}
 use Rattle.calls.proofs.layout.fill_row.Given as goal
 
 abbrev pub invariant-loop-k : goal.invariant-loop-k
-invariant-loop-k l = (l.k ≤ l.width) × RowFilled l.first l.rows l.col l.k l.initial.learned l.learned
-
-abbrev pub decreases-loop-k : goal.decreases-loop-k
-decreases-loop-k l = l.width - l.k
+invariant-loop-k l = RowFilled l.first l.rows l.col l.k l.initial.learned l.learned

@@ -2,6 +2,6 @@
 use Rattle.calls.proofs.RefusedCases.{layout_refused}
 use Rattle.calls.proofs.layout.layout.Goals as goal
 
-pub returns-in-Refused : goal.returns-in-Refused
-returns-in-Refused c =
-    rw c.none.ensures (layout_refused c.in-Refused.is _ _ _ _ _ c.layout_check-verdict.ensures)
+pub returns-in-Err : goal.returns-in-Err
+returns-in-Err c =
+    rw c.none.ensures (layout_refused c.in-Err.is _ _ _ _ _ c.layout_check.ensures)

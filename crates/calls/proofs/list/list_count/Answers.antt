@@ -1,12 +1,16 @@
 -- `calls::list::list_count` meets its contract: the verdict picks the case of `listed` (`ListCounts`). Assumes nothing.
-use mathlib.Core.Path.{sym, ◌∙◌}
+use Rattle.std.proofs.Common.{rules, Err}
+use mathlib.Core.Path.{◌≡◌, sym, ◌∙◌}
 use Rattle.calls.proofs.list.ListCounts.{count_none, count_filled}
 use Rattle.calls.proofs.list.list_count.Goals as goal
 
-pub returns-in-Refused : goal.returns-in-Refused
-returns-in-Refused c = count_none _ _ _ c.list_check-verdict.ensures c.in-Refused.is
+pub returns-in_err-list_check-clause-counted : goal.returns-in_err-list_check-clause-counted
+returns-in_err-list_check-clause-counted c =
+    let same : c.from_residual.result ≡ Err c.in_err-list_check.field-0.0 = search rules in
+    rw same (count_none _ _ _ c.list_check.ensures c.in_err-list_check.was)
 
-pub returns : goal.returns
-returns c =
-    count_filled _ _ _ (sym c.list_check-verdict.ensures ∙ c.in_default.is)
-    c.fill_route.ensures
+pub returns-clause-verdict : goal.returns-clause-verdict
+returns-clause-verdict c = sym c.in_ok-list_check.was ∙ c.list_check.ensures
+
+pub returns-clause-counted : goal.returns-clause-counted
+returns-clause-counted c = count_filled _ _ _ (sym c.list_check.ensures ∙ c.in_ok-list_check.was) c.fill_route.ensures

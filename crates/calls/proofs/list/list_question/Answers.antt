@@ -2,8 +2,8 @@
 use Rattle.calls.proofs.list.ListCounts.{number_none, number_why}
 use Rattle.calls.proofs.list.list_question.Goals as goal
 
-pub returns-in-Accepted : goal.returns-in-Accepted
-returns-in-Accepted c = number_none _ _ _ c.list_check-verdict.ensures c.in-Accepted.is
+pub returns-in-Ok : goal.returns-in-Ok
+returns-in-Ok c = number_none _ _ _ c.list_check.ensures c.in-Ok.is
 
-pub returns-in-Refused : goal.returns-in-Refused
-returns-in-Refused c = number_why _ _ _ _ c.list_check-verdict.ensures c.in-Refused.is c.number.ensures
+pub returns-in-Err : goal.returns-in-Err
+returns-in-Err c = number_why _ _ _ _ c.list_check.ensures c.in-Err.is c.number.ensures

@@ -5,11 +5,11 @@ use Rattle.calls.proofs.list.ListCases.{list_lost, list_short, list_passes}
 use Rattle.calls.proofs.advance.MoveCases.{accepts_walkable}
 use Rattle.calls.proofs.list.list_rest.Goals as goal
 
-pub offset_bounds-learned-cell : goal.offset_bounds-learned-cell
-offset_bounds-learned-cell c = omega (arith, (accepts_walkable _ _ c.requires).inside, cells_few _ _ (accepts_walkable _ _ c.requires).sides)
+pub offset_bounds-learned-head : goal.offset_bounds-learned-head
+offset_bounds-learned-head c = omega (arith, (accepts_walkable _ _ c.requires).inside, cells_few _ _ (accepts_walkable _ _ c.requires).sides)
 
-pub bounds-learned-cell : goal.bounds-learned-cell
-bounds-learned-cell c =
+pub bounds-learned-head : goal.bounds-learned-head
+bounds-learned-head c =
     omega (arith, (accepts_walkable _ _ c.requires).inside, (accepts_walkable _ _ c.requires).learneds)
 
 pub stands-stood-requires : goal.stands-stood-requires

@@ -2,5 +2,5 @@
 use Rattle.calls.proofs.RefusedCases.{plan_refused}
 use Rattle.calls.proofs.plan.plan.Goals as goal
 
-pub returns-in-Refused : goal.returns-in-Refused
-returns-in-Refused c = plan_refused c.in-Refused.is _ _ _ c.plan_check-verdict.ensures
+pub returns-in-Err : goal.returns-in-Err
+returns-in-Err c = plan_refused c.in-Err.is _ _ _ c.plan_check.ensures

@@ -2,5 +2,5 @@
 use Rattle.calls.proofs.RefusedCases.{report_refused}
 use Rattle.calls.proofs.report.report.Goals as goal
 
-pub returns-in-Refused : goal.returns-in-Refused
-returns-in-Refused c = report_refused c.in-Refused.is _ _ _ c.report_check-verdict.ensures
+pub returns-in-Err : goal.returns-in-Err
+returns-in-Err c = report_refused c.in-Err.is _ _ _ c.report_check.ensures

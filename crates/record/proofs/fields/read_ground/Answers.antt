@@ -3,20 +3,17 @@
 use Rattle.record.proofs.fields.SpreadBits.{byte_next}
 use Rattle.record.specs.Cells.{bit_at}
 use Rattle.model.proofs.Lists.FillLoop.{fill_begin, fill_next}
-use native.Mathlib.Omega.{arith}
 use Rattle.record.proofs.fields.read_ground.Goals as goal
 
 pub loop-j-init : goal.loop-j-init
-loop-j-init c = (omega arith, fill_begin (bit_at _) _)
+loop-j-init c = fill_begin (bit_at _) _
 
 pub loop-j-preserved : goal.loop-j-preserved
-loop-j-preserved c = (
-  omega arith,
-  byte_next _ c.loop-j.j _ _ _ c.loop-j.invariant.1 c.byte_of-byte.ensures
-      c.spread-low.ensures c.spread-high.ensures
-      c.put_four.ensures c.put_four-in-loop-j.ensures,
-)
+loop-j-preserved c =
+    byte_next _ c.loop-j.j _ _ _ c.loop-j.invariant c.byte_of-byte.ensures
+    c.spread-low.ensures c.spread-high.ensures
+    c.put_four.ensures c.put_four-in-loop-j.ensures
 
 pub loop-c-preserved : goal.loop-c-preserved
 unfolding bit_at
-loop-c-preserved c = (omega arith, λ o k p f. fill_next _ (c.loop-c.invariant.1 o k p f) c.bit_of.ensures)
+loop-c-preserved c = fill_next _ c.loop-c.invariant c.bit_of.ensures

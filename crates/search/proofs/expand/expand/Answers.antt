@@ -1,26 +1,42 @@
 -- `search::expand::expand` meets its contract. The loop keeps what the directions so far have made of scratch (`LookLaws`). Assumes nothing.
-use Rattle.search.proofs.expand.LookLaws.{queued_out, looks_begin, looks_on, looks_done}
-use Rattle.model.specs.Lent.{scratch_with}
+use Rattle.grid.proofs.CellLaws.{some_on}
+use Rattle.search.proofs.SameLists.{scratch_begins, queue_begins, scratch_still, queue_still}
+use Rattle.search.proofs.expand.LookLaws.{queued_out, looks_begin, looks_on, looks_off, looks_done}
 use mathlib.Core.Path.{refl}
 use native.Mathlib.Omega.{arith}
 use Rattle.search.proofs.expand.expand.Goals as goal
+use Rattle.search.proofs.expand.expand.Goals.{in-Some, in_default}
 
 pub loop-d-init : goal.loop-d-init
 loop-d-init c =
-    looks_begin _
-    (rw (← c.requires.n_value.0)
-    (queued_out c.args.x _ _ c.requires.queued c.requires.n_value.3 c.requires.n_value.4 c.pop.ensures))
+    let r = c.requires in
+    let kept = c.pop.ensures.same in (
+      rw (kept.cells, c.pop.ensures.waiting)
+          (looks_begin c.args.plot r.sides (queued_out c.args.x _ _ r.agree r.first.0 r.first.1 c.pop.ensures.keys)),
+      scratch_begins _,
+      queue_begins _,
+    )
+
+pub look_at-requires-clause-inside : goal.look_at-requires-clause-inside
+look_at-requires-clause-inside c =
+    let a = c.loop-d.invariant.0 in
+    (omega (arith, a.count, (some_on c.in-Some.ensures).inside), omega (arith, a.count, c.requires.stands.0))
 
 pub loop-d-preserved : goal.loop-d-preserved
 loop-d-preserved c =
-    looks_on _ _ _ _ _ _ c.loop-d.invariant c.loop-d-test.true c.requires.n_value.6 refl c.ahead-y.ensures
-    (rw c.requires.n_value.0 at c.look_at-waiting.ensures) (search c.look_at-waiting.auto)
-    (search c.look_at-waiting.auto) (search c.look_at-waiting.auto)
-    (search c.look_at-waiting.auto) (search c.look_at-waiting.auto)
+    let free = c.requires.stands.1 in
+    let a = c.loop-d.invariant in
+    elim c.match-ahead.branch [
+      | in-Some w ↦
+          let kept = w.look_at.ensures.same in
+          rw (w.scratch-is, w.queue-is) (
+            rw kept.1.cells (looks_on c.args.plot a.0 c.loop-d.auto.d free _ refl _ _ _ _ _ w.in-Some.ensures (rw kept.1.cells at w.look_at.ensures.looked)),
+            scratch_still a.1 kept.0,
+            queue_still a.2 kept.1,
+          )
+      | in_default w ↦
+          rw (w.scratch-is, w.queue-is) (looks_off c.args.plot a.0 c.loop-d.auto.d free _ refl w.in_default.ensures, a.1, a.2)
+    ]
 
-pub returns : goal.returns
-returns c =
-    let t = c.loop-d-test.false in
-    rw c.requires.n_value.0
-    (looks_done (scratch_with c.args.mark.now c.args.cost.now c.args.trail.now) c.loop-d.invariant
-    (omega arith))
+pub returns-clause-expanded : goal.returns-clause-expanded
+returns-clause-expanded c = looks_done c.args.plot _ c.loop-d.invariant.0 (omega arith)

@@ -1,2 +1,0 @@
--- What is left of report's tests.
-pub mod ReportRest
