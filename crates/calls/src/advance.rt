@@ -8,7 +8,7 @@ use checks::acceptance;
 use grid::plot::Plot;
 use model::{Head, Moved, Reason, Step};
 
-// Move. (The ground is not asked: sound links lead to free cells.)
+// Move. (The ground is not asked: sound links lead to free cells. Link 0 is none: C reads it.)
 pub fn onward(head: Head, ground: &[u8], learned: &[u16], link: &mut [u8]) -> Moved
     requires { Accepts head (lent_with ground.now learned.now link.old) }
     ensures { after result (lent_with ground.now learned.now link.new) ≡ moved head (lent_with ground.now learned.now link.old) }
@@ -21,13 +21,13 @@ pub fn onward(head: Head, ground: &[u8], learned: &[u16], link: &mut [u8]) -> Mo
         };
     }
     let plot = Plot::new(head.width, head.height);
-    if !plot.leads(head.goal, learned, &link[..], cell) {
+    if !plot.leads(head.goal, learned, link, cell) {
         return Moved {
             head,
             step: Err(Reason::NoRoute),
         };
     }
-    let next = plot.ahead(cell, cell % plot.width, link[cell]).unwrap();
+    let next = plot.ahead_of(cell, link[cell]).unwrap();
     link[cell] = 0;
     Moved {
         head: head.moved_to(next),
@@ -40,6 +40,7 @@ pub fn advance(head: Head, ground: &[u8], learned: &[u16], link: &mut [u8]) -> M
     ensures { after result (lent_with ground.now learned.now link.new)
         ≡ moved head (lent_with ground.now learned.now link.old) }
 {
+    // (No `?`: the reason goes into an answer of the call's own.)
     if let Err(why) = acceptance(head, ground, learned, link) {
         return Moved {
             head,

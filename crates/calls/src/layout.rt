@@ -11,7 +11,7 @@ use grid::plot::Plot;
 use model::{Changed, Head, Reason};
 
 // The distances in one row, from its first cell on: the row is this many rows from the goal's, and the goal stands in column
-// col. No cell asks for a division.
+// col. No cell asks for a division. (Of the plot a row asks the width alone.)
 fn fill_row(learned: &mut [u16], width: usize, first: usize, rows: usize, col: usize)
     requires { (first + width ≤ length learned.old) × (rows + width ≤ 65536) × (col < width) }
     ensures { learned.new ≡ row_filled first rows col width learned.old }
@@ -34,7 +34,8 @@ fn fill_rows(learned: &mut [u16], plot: Plot, goal: usize)
     }
 }
 
-// A layout that is accepted: ground and links all 0, the distances, and the head.
+// A layout that is accepted: ground and links all 0, the distances, and the head. (Four numbers, here and below: layout is given no
+// head, and no plot before its sides are tested.)
 #[tactic(auto, using(model::proofs::Calls::LayoutLaws::layout_passed, model::proofs::Lists::Filled::part_length))]
 pub fn lay_out(
     width: usize,
@@ -71,6 +72,7 @@ pub fn layout(
     ensures { after result (lent_with ground.new learned.new link.new)
         ≡ laid_out width height start goal (lent_with ground.old learned.old link.old) }
 {
+    // (No `?`: the reason goes into an answer of the call's own.)
     if let Err(why) = layout_check(width, height, start, goal, ground, learned, link) {
         return Changed {
             head: Head::none(),

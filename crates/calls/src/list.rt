@@ -43,7 +43,7 @@ fn follow(plot: Plot, link: &[u8], buffer: &mut [u16], v: usize, c: usize)
     let mut at = c;
     for i in 0..v {
         buffer[i] = at as u16;
-        at = plot.ahead(at, at % plot.width, link[at]).unwrap();
+        at = plot.ahead_of(at, link[at]).unwrap();
     }
     buffer[v] = at as u16;
 }
@@ -95,8 +95,8 @@ pub fn list_question(
     }
 }
 
-// List with the front's length for an answer: so that the whole buffer afterwards can be told.
-pub fn list_count(
+// List with the front's length for an answer, or why it is refused.
+pub fn list_cells(
     head: Head,
     ground: &[u8],
     learned: &[u16],
@@ -106,12 +106,26 @@ pub fn list_count(
     ensures verdict { length_verdict result ≡ list_check head (lent_with ground.now learned.now link.now) buffer.old }
     ensures counted { Counted head (lent_with ground.now learned.now link.now) buffer.old (count_in result) buffer.new }
 {
-    list_check(head, ground, learned, link, &buffer[..])?;
+    list_check(head, ground, learned, link, buffer)?;
     Ok(fill_route(head, ground, learned, link, buffer))
 }
 
+// The same, with 0 where it is refused: so that the whole buffer afterwards can be told.
+pub fn list_count(
+    head: Head,
+    ground: &[u8],
+    learned: &[u16],
+    link: &[u8],
+    buffer: &mut [u16],
+) -> usize
+    ensures { Counted head (lent_with ground.now learned.now link.now) buffer.old result buffer.new }
+{
+    list_cells(head, ground, learned, link, buffer).unwrap_or(0)
+}
+
 // List: the filled front of that same buffer, from its first entry on. A part that is handed back takes the buffer with it,
-// so that the promise can't name the entries after it: `list_count`, which writes them, does.
+// so that the promise can't name the entries after it: `list_count`, which writes them, does. (No Result: document 01 has a refused
+// list return only its empty front.)
 pub fn list<'a>(
     head: Head,
     ground: &[u8],
@@ -121,6 +135,6 @@ pub fn list<'a>(
 ) -> &'a mut [u16]
     ensures { (result.now ≡ (listed head (lent_with ground.now learned.now link.now) buffer.old).front) × (result.ref_ptr ≡ buffer.entry.ref_ptr) }
 {
-    let count = list_count(head, ground, learned, link, buffer).unwrap_or(0);
+    let count = list_count(head, ground, learned, link, buffer);
     &mut buffer[..count]
 }

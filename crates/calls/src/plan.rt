@@ -23,6 +23,7 @@ pub fn plan(
         ≡ planned head (lent_with ground.now learned.old link.old)
         (scratch_with mark.old cost.old trail.old) }
 {
+    // (No `?`: the reason goes into an answer of the call's own.)
     if let Err(why) = plan_check(head, ground, learned, link, mark, cost, trail) {
         return Planned {
             head,

@@ -19,7 +19,8 @@ fn cut_at(link: &mut [u8], y: usize, d: u8)
     }
 }
 
-// The links once c is blocked: its own goes, and of its neighbours' each that is the step back to c.
+// The links once c is blocked: its own goes, and of its neighbours' each that is the step back to c. (Directions are the bytes that C
+// reads in link, and 0 is none. A plot is copied and links are lent, so they are no struct.)
 fn unlink(link: &mut [u8], plot: Plot, c: usize)
     requires { (c < plot.cells) × (plot.cells ≤ length link.old) }
     ensures { link.new ≡ unlinked plot.width plot.height link.old c }
@@ -34,7 +35,7 @@ fn unlink(link: &mut [u8], plot: Plot, c: usize)
 }
 
 // A report that is accepted: a free cell is blocked, and a cell known blocked changes nothing. Learned values stay, and are
-// handed in for the contract alone.
+// handed in for the contract alone. (Ground is bytes, 0 and 1: C lends it.)
 pub fn block(head: Head, ground: &mut [u8], learned: &[u16], link: &mut [u8], c: usize) -> Changed
     requires { report_check head (lent_with ground.old learned.now link.old) c ≡ Ok tt }
     ensures { after result (lent_with ground.new learned.now link.new) ≡ reported head (lent_with ground.old learned.now link.old) c }
@@ -54,6 +55,7 @@ pub fn report(head: Head, ground: &mut [u8], learned: &[u16], link: &mut [u8], c
     ensures { after result (lent_with ground.new learned.now link.new)
         ≡ reported head (lent_with ground.old learned.now link.old) c }
 {
+    // (No `?`: the reason goes into an answer of the call's own.)
     if let Err(why) = report_check(head, ground, learned, link, c) {
         return Changed {
             head,

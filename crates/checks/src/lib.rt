@@ -36,7 +36,8 @@ fn fits_within(width: usize, height: usize, room: usize, far: usize) -> Result<(
     Ok(())
 }
 
-// The same, of what a call lends: spare is the length of the shortest further buffer, also one more cell that is named.
+// The same, of what a call lends: spare is the length of the shortest further buffer, also one more cell that is named. (The least of
+// three lengths, here and in `layout_check`: a function of three slices would be called in as many words.)
 fn fits_with(
     head: Head,
     ground: &[u8],
@@ -66,9 +67,10 @@ fn check_with(
 {
     fits_with(head, ground, learned, link, spare, also)?;
     if sound(head, ground, learned, link) {
-        return Ok(());
+        Ok(())
+    } else {
+        Err(Reason::Unsound)
     }
-    Err(Reason::Unsound)
 }
 
 // Whether the data are accepted. Nothing further is lent or named: ground and the goal, which are asked anyway, stand in.
@@ -94,7 +96,7 @@ pub fn layout_check(
     fits_within(width, height, room, goal.max(start))
 }
 
-// Whether report is refused: 5 comes last.
+// Whether report is refused: 5 comes last. (The one comparison stands in `rest` too, behind another test for 3.)
 pub fn report_check(
     head: Head,
     ground: &[u8],

@@ -6,7 +6,7 @@ ghost use Rattle.checks.specs.Rest.{report_rest};
 
 use model::{Head, Reason};
 
-// Report: 3 for the reported cell, and 5.
+// Report: 3 for the reported cell, and 5. (`report_check` asks the 5 too, behind another test for 3.)
 #[tactic(auto, unfolding(crate::specs::Rest::report_rest))]
 pub fn report_rest(head: Head, c: usize) -> Result<(), Reason>
     requires { cells_of head ≤ max_cells }

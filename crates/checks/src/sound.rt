@@ -14,6 +14,15 @@ ghost use Rattle.checks.specs.Flat.{Paired, Clear, EndsMarked};
 
 use model::Head;
 
+// Directions, as they stand in the links that C lends: any byte may.
+const RIGHT: u8 = 1;
+
+const DOWN: u8 = 2;
+
+const LEFT: u8 = 3;
+
+const UP: u8 = 4;
+
 // Whether each number below n passes. The loop has no exit, so that it is compiled to vectors.
 fn every<F: Fn(usize) -> bool>(n: usize, test: F) -> bool
     requires { AnswersBelow n (F.pre test) }
@@ -31,7 +40,7 @@ fn every<F: Fn(usize) -> bool>(n: usize, test: F) -> bool
 fn cell_test(g: u8, k: u8) -> bool
     ensures { result ≡ cell_test g k }
 {
-    (g <= 1) & ((k <= 4) & ((k == 0) | (g == 0)))
+    (g <= 1) & (k <= 4) & ((k == 0) | (g == 0))
 }
 
 fn cells_ok(ground: &[u8], link: &[u8], n: usize) -> bool
@@ -61,10 +70,11 @@ fn close_ok(a: u16, b: u16) -> bool
 fn near_test(ga: u8, gb: u8, e: u8, la: u16, lb: u16) -> bool
     ensures { result ≡ near_test ga gb e la lb }
 {
-    (0 < ga) | ((0 < gb) | ((0 < e) | close_ok(la, lb)))
+    (0 < ga) | (0 < gb) | (0 < e) | close_ok(la, lb)
 }
 
-// Where direction `to` leads from a to b and `from` back: a link between them leads to a free cell, over no row's end.
+// Where direction `to` leads from a to b and `from`, its opposite, back: a link between them leads to a free cell, over no row's end.
+// (Step, to and from go together from `pairs` to here alone, and each pass takes them apart.)
 #[tactic(auto, unfolding(crate::specs::Flat::lead_test))]
 fn lead_test(ga: u8, gb: u8, e: u8, ka: u8, kb: u8, to: u8, from: u8) -> bool
     ensures { result ≡ lead_test ga gb e ka kb to from }
@@ -130,7 +140,7 @@ fn pairs(
 fn edge_test(first: u8, last: u8) -> bool
     ensures { result ≡ edge_test first last }
 {
-    (first != 4) & (last != 2)
+    (first != UP) & (last != DOWN)
 }
 
 fn edges_ok(link: &[u8], low: usize, w: usize) -> bool
@@ -140,7 +150,7 @@ fn edges_ok(link: &[u8], low: usize, w: usize) -> bool
     every(w, |i| edge_test(link[i], link[low + i]))
 }
 
-// Writes 1 at the last cell of each of h rows.
+// Writes 1 at the last cell of each of h rows. (Two numbers of a plot, here and below: both are taken apart at once.)
 fn mark_ends(end: &mut [u8], w: usize, h: usize)
     requires { (0 < w) × (h * w ≤ length end.old) × Clear end.old }
     ensures { EndsMarked w h end.new }
@@ -158,7 +168,7 @@ fn right_pairs(ground: &[u8], learned: &[u16], link: &[u8], end: &[u8], w: usize
     ensures { result ≡ pairs 1 1 3 (n - 1) ground.now learned.now link.now end.now }
 {
     let step = end[w - 1] as usize;
-    pairs(ground, learned, link, end, step, 1, 3, n - 1)
+    pairs(ground, learned, link, end, step, RIGHT, LEFT, n - 1)
 }
 
 // What is asked of cells one by one.
@@ -170,9 +180,9 @@ fn alone(head: Head, ground: &[u8], learned: &[u16], link: &[u8]) -> bool
     let w = head.width;
     let n = w * head.height;
     let own = cells_ok(ground, link, n) & small_ok(learned, (n - 1) as u16, n);
-    let edges = edges_ok(link, n - w, w) & ((link[0] != 3) & (link[n - 1] != 1));
-    let here = (ground[head.cell] == 0) & ((learned[head.goal] == 0) & (link[head.goal] == 0));
-    own & (edges & here)
+    let edges = edges_ok(link, n - w, w) & (link[0] != LEFT) & (link[n - 1] != RIGHT);
+    let here = (ground[head.cell] == 0) & (learned[head.goal] == 0) & (link[head.goal] == 0);
+    own & edges & here
 }
 
 // Whether the data are sound. No row ends between a cell and the one below it: those pairs go first, while no end is marked.
@@ -184,7 +194,7 @@ pub fn sound(head: Head, ground: &[u8], learned: &[u16], link: &[u8]) -> bool
     let h = head.height;
     let n = w * h;
     let mut end: [u8; Head::MAX_CELLS] = [0; Head::MAX_CELLS];
-    let below = pairs(ground, learned, link, &end, w, 2, 4, n - w);
+    let below = pairs(ground, learned, link, &end, w, DOWN, UP, n - w);
     mark_ends(&mut end, w, h);
     let right = right_pairs(ground, learned, link, &end, w, n);
     alone(head, ground, learned, link) & (right & below)

@@ -112,9 +112,12 @@ module _ (bytes : List ℕ) {truth : List ℕ} where
       drawn e = record { is = rw (drawn_in, decides, e, ← l.is) refl; in_truth = λ _ c i. l.agrees c (rw l.is i) }
 
 -- the true ground as it was laid, out of the rows
-module _ (bytes : List ℕ) {head : Head} {rows : List ℕ} (truth₀ : List ℕ) {truth : List ℕ} (is : head ≡ (drawing_in bytes).head)
-    (rest : rows ≡ behind (behind (behind (behind bytes)))) (on : on_plot head ≡ true)
-    (e : truth ≡ filled (cells_of head) (truth_in head.width rows) truth₀) (room : max_cells ≤ length truth₀) where
+module _ (bytes : List ℕ) {head : Head} {rows : List ℕ} (truth₀ : List ℕ) {truth : List ℕ} {w n : ℕ} (is : head ≡ (drawing_in bytes).head)
+    (rest : rows ≡ behind (behind (behind (behind bytes)))) (on : on_plot head ≡ true) (side : w ≡ head.width) (all : n ≡ cells_of head)
+    (put : truth ≡ filled n (truth_in w rows) truth₀) (room : max_cells ≤ length truth₀) where
+  e : truth ≡ filled (cells_of head) (truth_in head.width rows) truth₀
+  e = rw (all, side) at put
+
   few : cells_of head ≤ max_cells
   few = cells_few head.width head.height (on_sides_good head on)
 

@@ -12,6 +12,7 @@ ghost use Rattle.drawing.specs.Drawing.{is_digit, grown, value, behind, truth_at
 ghost use Rattle.drawing.specs.Reading.{on_plot};
 
 use crate::text::is_text;
+use grid::plot::Plot;
 use model::Head;
 
 // One digit more.
@@ -20,9 +21,10 @@ fn grown(value: usize, byte: u8) -> usize
     ensures { (result ≡ grown value byte) × (result < 100000) }
 {
     if value < 10000 {
-        return value * 10 + (byte - b'0') as usize;
+        value * 10 + usize::from(byte - b'0')
+    } else {
+        value
     }
-    value
 }
 
 // The number at the front, and what comes behind it and one character more. (No `parse`: any bytes are read, and loosely.)
@@ -32,11 +34,11 @@ fn number(bytes: &[u8]) -> (usize, &[u8])
 {
     let mut value = 0;
     let mut rest = bytes;
-    while let Some((byte, behind)) = rest.split_first() {
+    while let Some((&byte, behind)) = rest.split_first() {
         if !byte.is_ascii_digit() {
             return (value, behind);
         }
-        value = grown(value, *byte);
+        value = grown(value, byte);
         rest = behind;
     }
     (value, rest)
@@ -54,6 +56,8 @@ fn first_line(bytes: &[u8]) -> (Head, &[u8])
     (Head::new(width, height, goal, start), rows)
 }
 
+// Whether goal and cart stand on a plot of good sides. (Of bytes that may say anything: `checks` asks it of what a call names.)
+#[tactic(auto, using(model::proofs::Calls::Acceptance::cells_few), unfolding(crate::specs::Reading::on_plot))]
 fn on_plot(head: Head) -> bool
     ensures { result ≡ on_plot head }
 {
@@ -61,7 +65,7 @@ fn on_plot(head: Head) -> bool
         return false;
     }
     let n = head.width * head.height;
-    (head.goal < n) & (head.cell < n)
+    head.goal < n && head.cell < n
 }
 
 // 1 where a place has a `#`. What is missing reads as free.
@@ -74,13 +78,13 @@ fn truth_at(rows: &[u8], at: usize) -> u8
     }
 }
 
-// The true ground of the first n cells, out of rows of w characters and a line feed.
-fn fill_truth(rows: &[u8], w: usize, n: usize, truth: &mut [u8])
-    requires { (0 < w) × (n ≤ max_cells) × (n ≤ length truth.old) }
-    ensures { truth.new ≡ filled n (truth_in w rows.now) truth.old }
+// The true ground of a plot, out of rows of its width and a line feed.
+fn fill_truth(rows: &[u8], plot: Plot, truth: &mut [u8])
+    requires { plot.cells ≤ length truth.old }
+    ensures { truth.new ≡ filled plot.cells (truth_in plot.width rows.now) truth.old }
 {
-    for c in 0..n {
-        truth[c] = truth_at(rows, c + c / w);
+    for c in 0..plot.cells {
+        truth[c] = truth_at(rows, c + c / plot.width);
     }
 }
 
@@ -94,7 +98,7 @@ pub fn read(bytes: &[u8], truth: &mut [u8]) -> Option<Head>
     if !on_plot(head) {
         return None;
     }
-    fill_truth(rows, head.width, head.width * head.height, truth);
+    fill_truth(rows, Plot::new(head.width, head.height), truth);
     if truth[head.cell] != 0 {
         return None;
     }

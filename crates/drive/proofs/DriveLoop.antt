@@ -1,8 +1,9 @@
 -- The loop of the program: the drive is under way, and what is left to do falls. Assumes nothing.
-use Prim.Native.Nat.{ℕ, ◌<◌}
-use mathlib.Core.Path.{◌≡◌, sym, ap, ◌∙◌}
-use mathlib.Core.Bool.{Bool, false}
+use Prim.Native.Nat.{ℕ, ◌+◌, ◌<◌}
+use mathlib.Core.Path.{◌≡◌, refl, sym, ap, ◌∙◌}
+use mathlib.Core.Bool.{Bool, true, false, not, cond}
 use mathlib.Core.List.{List}
+use native.Mathlib.Omega.{arith}
 use Rattle.printing.specs.Lines.{is_last}
 use Rattle.printing.specs.declared.lines.Line.{Line}
 use Rattle.turn.specs.Turn.{Drive, Said, says, turn}
@@ -13,16 +14,29 @@ use Rattle.turn.proofs.DriveUnderWay.{UnderWay, going_on}
 abbrev pub waiting_room : ℕ
 waiting_room = 8192
 
+-- what falls: what is left to do, and one more as long as the drive goes on
+abbrev pub to_say : (going : Bool) (truth : List ℕ) → Drive → ℕ
+to_say going truth k = cond going (left_to_do truth k + 1) 0
+
 module _ {truth : List ℕ} {k next : Drive} {line : Line} (g : UnderWay truth k) (e : says line next ≡ turn truth k) {last : Bool}
-    (l : last ≡ is_last line) (f : last ≡ false) where
-  goes_on : is_last (turn truth k).line ≡ false
-  goes_on = ap (λ (a : Said). is_last a.line) (sym e) ∙ sym l ∙ f
+    (l : last ≡ is_last line) where
+  goes_on : last ≡ false → is_last (turn truth k).line ≡ false
+  goes_on f = ap (λ (a : Said). is_last a.line) (sym e) ∙ sym l ∙ f
 
   next_is : (turn truth k).drive ≡ next
   next_is = ap (λ (a : Said). a.drive) (sym e)
 
-  pub going_again : UnderWay truth next
-  going_again = rw next_is at (going_on truth k g goes_on)
+  pub going_again : last ≡ false → UnderWay truth next
+  going_again f = rw next_is at (going_on truth k g (goes_on f))
 
-  pub less_to_say : left_to_do truth next < left_to_do truth k
-  less_to_say = rw next_is at (turn_falls truth k g.in_order goes_on).falls
+  -- what is left to do where the line is not the last
+  pub less_to_do : last ≡ false → left_to_do truth next < left_to_do truth k
+  less_to_do f = rw next_is at (turn_falls truth k g.in_order (goes_on f)).falls
+
+  -- and what falls with every line, the last one too
+  pub less_to_say : {going : Bool} → going ≡ true → to_say (not last) truth next < to_say going truth k
+  less_to_say q = rw q (go last refl)
+    where
+      go : (b : Bool) → last ≡ b → cond (not b) (left_to_do truth next + 1) 0 < left_to_do truth k + 1
+      go true f = omega arith
+      go false f = omega (arith, less_to_do f)

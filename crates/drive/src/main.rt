@@ -28,7 +28,8 @@ const LONGEST: usize = 16 + ROWS;
 // So many bytes may wait to be written.
 const WAITING: usize = 8192;
 
-// Writes what waits on the page where there may be no room for one more line.
+// Writes what waits on the page where there may be no room for one more line. (That its text lies in its bytes is asked here and by
+// `text` alone: every put asks for more.)
 fn flush(rt: &impl Print, page: &mut Page<'_>) -> io::Result<()>
     requires { (page.old.length ≤ length page.old.bytes.now) × (longest_line ≤ length page.old.bytes.now) }
     ensures room { OnOk result (page.new.length + longest_line ≤ length page.new.bytes.now) }
@@ -42,7 +43,7 @@ fn flush(rt: &impl Print, page: &mut Page<'_>) -> io::Result<()>
     Ok(())
 }
 
-// Turn by turn, until a line is the last one. The data were accepted, and stay so.
+// Turn by turn, until a line is the last one. The data were accepted, and stay so. (Truth is of any length that serves, as in `read`.)
 fn tell(rt: &impl Print, drive: &mut Drive<'_>, truth: &[u8]) -> io::Result<()>
     requires accepted { plan_check drive.old.head (lent_of drive.old) (scratch_of drive.old.scratch) ≡ Ok tt }
     requires truth { max_cells ≤ length truth.now }
@@ -117,10 +118,10 @@ fn main(rt: HostRuntime) -> io::Result<()> {
     let mut bytes = [0u8; LONGEST + 1];
     let mut truth = [0u8; Head::MAX_CELLS];
     let got = read_full(&mut rt.stdin(), &mut bytes)?;
-    if got <= LONGEST {
-        if let Some(head) = read(&bytes[..got], &mut truth) {
-            return run(&rt, head, &truth);
-        }
+    if got <= LONGEST
+        && let Some(head) = read(&bytes[..got], &mut truth)
+    {
+        return run(&rt, head, &truth);
     }
     println!(rt; "bad input")
 }

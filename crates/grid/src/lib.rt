@@ -13,8 +13,5 @@ ghost use Rattle.model.specs.Plot.{opposite};
 pub fn opposite(d: u8) -> u8
     ensures { result ≡ opposite d }
 {
-    if d <= 2 {
-        return d + 2;
-    }
-    d - 2
+    if d <= 2 { d + 2 } else { d - 2 }
 }

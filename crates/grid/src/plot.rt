@@ -45,6 +45,14 @@ impl Plot {
         }
     }
 
+    // The same, where no other direction is asked.
+    pub fn ahead_of(self, c: usize, d: u8) -> Option<usize>
+        requires { c < self.cells }
+        ensures { result ≡ cell_on self.cells (ahead self.width self.height c d) }
+    {
+        self.ahead(c, c % self.width, d)
+    }
+
     // The cell that at's link leads to, where its learned value is one less than what is left.
     // (Learned values and links are lent apart, and a call may write one of them: what a walk asks of both stands in `Walkable`.)
     pub fn descend(self, learned: &[u16], link: &[u8], at: usize, left: u16) -> Option<usize>
@@ -52,7 +60,7 @@ impl Plot {
         ensures { result ≡ cell_on self.cells (descend self.width self.height learned.now link.now left at) }
     {
         let fewer = left.checked_sub(1)?;
-        let next = self.ahead(at, at % self.width, link[at])?;
+        let next = self.ahead_of(at, link[at])?;
         if learned[next] != fewer {
             return None;
         }
@@ -67,7 +75,8 @@ impl Plot {
     {
         let mut at = c;
         let mut left = learned[c];
-        // (A walk: a `for` over what is left would ask for the goal twice, in the loop and after it.)
+        // (A walk: a `for` over what is left would ask for the goal twice, in the loop and after it. `search::stop` walks so too, with a
+        // memory that tests and writes at each cell: a parameter for that would be as long as the walk.)
         while at != goal {
             let Some(next) = self.descend(learned, link, at, left) else {
                 return false;

@@ -8,7 +8,8 @@ ghost use Rattle.model.specs.Plot.{bad_sides};
 ghost use Rattle.model.specs.Numbers.{reason_number, outcome_verdict, step_verdict};
 ghost use Rattle.model.specs.Head.{head_at, no_head, moved_to, aimed_at};
 
-// The plot's sides, its goal and the cart's cell. It goes in by value, and the next head comes back.
+// The plot's sides, its goal and the cart's cell. It goes in by value, and the next head comes back. (No method for the number of
+// cells: a head may hold any sides, and where they have passed their test the product is as short.)
 #[derive(Clone, Copy, Debug, PartialEq, Eq)]
 pub struct Head {
     pub width: usize,
@@ -24,21 +25,12 @@ impl Head {
     pub const MAX_CELLS: usize = Self::MAX_SIDE * Self::MAX_SIDE;
 
     // A side is 0 or above the largest. Good sides come first: only they have a product that fits. (So two numbers, here and in the tests
-    // that ask this: a plot is what has passed it.)
+    // that ask this: a plot is what has passed it. A range's `contains` would be denied.)
     #[tactic(auto, unfolding(crate::specs::Plot::bad_sides))]
     pub fn bad_sides(width: usize, height: usize) -> bool
         ensures { result ≡ bad_sides width height }
     {
-        if width == 0 {
-            return true;
-        }
-        if Self::MAX_SIDE < width {
-            return true;
-        }
-        if height == 0 {
-            return true;
-        }
-        Self::MAX_SIDE < height
+        width == 0 || Self::MAX_SIDE < width || height == 0 || Self::MAX_SIDE < height
     }
 
     pub fn new(width: usize, height: usize, goal: usize, cell: usize) -> Self
@@ -123,13 +115,12 @@ pub enum Outcome {
 }
 
 impl Outcome {
+    // (No From: `into` would not say what is asked.)
     pub fn verdict(self) -> Result<(), Reason>
         ensures { result ≡ outcome_verdict self }
     {
         match self {
-            Outcome::Route(_) => Ok(()),
-            Outcome::NoWay => Ok(()),
-            Outcome::Arrived => Ok(()),
+            Outcome::Route(_) | Outcome::NoWay | Outcome::Arrived => Ok(()),
             Outcome::Refused(why) => Err(why),
         }
     }
@@ -156,6 +147,7 @@ pub struct Moved {
 }
 
 impl Moved {
+    // (No From, as for a plan.)
     pub fn verdict(self) -> Result<(), Reason>
         ensures { result ≡ step_verdict self.step }
     {

@@ -1,13 +1,11 @@
 -- Text behind text: what is written in two steps is written in one.
 -- Assumes nothing.
-use Prim.Native.Nat.{ℕ, zero, suc, ◌+◌, ◌-◌, ◌/◌, ◌%◌, ◌≤◌, ◌<◌}
-use mathlib.Core.Path.{◌≡◌, refl, sym, ap, ap₂, ◌∙◌}
+use Prim.Native.Nat.{ℕ, zero, suc, ◌+◌, ◌/◌, ◌%◌, ◌≤◌, ◌<◌}
+use mathlib.Core.Path.{◌≡◌, sym, ap, ap₂, ◌∙◌}
 use mathlib.Core.Bool.{cond, Bool, true, false}
-use mathlib.Core.Logic.{◌≢◌}
 use mathlib.Core.List.{List, [], ◌∷◌, ◌++◌, append_assoc}
 use native.Mathlib.Nat.{add-zero}
 use native.Mathlib.Omega.{arith}
-use borrow.Author.Tests.{lt-ltb, le-ltb}
 use lib.Dec.{ltb}
 use lib.ListN.{length, take, drop, length-append, length-drop, take-append-drop}
 use lib.Seq.{take-append_seam, take_at, drop-append-add, drop-drop, length-take-le}
@@ -59,40 +57,6 @@ digits_long (suc k) n = go (ltb n 10) (digits_long k (n / 10))
     go : (b : Bool) → length (digits k (n / 10)) ≤ k + 1 → length (cond b (digit n ∷ []) (digits k (n / 10) ++ (digit (n % 10) ∷ []))) ≤ suc k + 1
     go true most = omega arith
     go false most = omega (arith, length-append (digits k (n / 10)) (digit (n % 10) ∷ []), most)
-
--- one digit is all of them
-pub digits_one : {at : ℕ} (k n : ℕ) {l : List ℕ} {next : ℕ} {l' : List ℕ} → Put at (digit (n % 10) ∷ []) l next l' → k ≡ 0
-    → Put at (digits k n) l next l'
-unfolding digits
-digits_one k n p e = rw (e, digits) p
-
-pub digits_few : {at : ℕ} (k n : ℕ) {l : List ℕ} {next : ℕ} {l' : List ℕ} → Put at (digit (n % 10) ∷ []) l next l' → n < 10
-    → Put at (digits k n) l next l'
-unfolding digits
-digits_few zero n p few = digits_one 0 n p refl
-digits_few (suc k) n p few =
-    let same : n % 10 ≡ n = omega arith in
-    let e : ltb n 10 ≡ true = lt-ltb n 10 few in
-    rw (digits, e, ← same) p
-
--- those before the last, and the last
-module _ {at : ℕ} (k n : ℕ) {l : List ℕ} {m : ℕ} {l₁ : List ℕ} (p : Put at (digits (k - 1) (n / 10)) l m l₁) (room : at + k < length l)
-    (some : k ≢ 0) where
-  pub digits_room : m < length l₁
-  digits_room =
-      let most = digits_long (k - 1) (n / 10) in
-      omega (arith, p.behind, most, put_long p (omega (arith, most)))
-
-  pub digits_more : {next : ℕ} {l₂ : List ℕ} → Put m (digit (n % 10) ∷ []) l₁ next l₂ → 10 ≤ n → Put at (digits k n) l next l₂
-  unfolding digits
-  digits_more q many = put_as (put_then p q (omega (arith, digits_long (k - 1) (n / 10)))) (go k some)
-    where
-      go : (k : ℕ) → k ≢ 0 → digits (k - 1) (n / 10) ++ (digit (n % 10) ∷ []) ≡ digits k n
-      go zero f = absurd (f refl)
-      go (suc j) f =
-          let e : ltb n 10 ≡ false = le-ltb n 10 many in
-          let s : suc j - 1 ≡ j = omega arith in
-          rw (s, digits, e) refl
 
 -- A number, and a character behind it ---------------------------------------------------------------------------------------------------
 

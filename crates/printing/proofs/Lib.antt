@@ -1,2 +1,3 @@
--- Text put behind text.
+-- Text put behind text, and numbers as the library writes them.
 pub mod Appended
+pub mod Decimal

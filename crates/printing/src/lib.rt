@@ -5,8 +5,10 @@
 pub mod lines;
 
 ghost use Rattle.std.specs.Prelude.{◌≡◌, ◌+◌, ◌<◌, ◌≤◌, [], ◌∷◌, length, take};
-ghost use Rattle.printing.specs.Text.{digits, decimal, number};
+ghost use Rattle.printing.specs.Text.{decimal, number};
 ghost use Rattle.printing.specs.Pages.{Writes, SamePage};
+
+use itoa::Buffer;
 
 // Lent bytes, and the length of the text that stands first in them.
 #[derive(Drop)]
@@ -16,7 +18,7 @@ pub struct Page<'a> {
 }
 
 impl<'a> Page<'a> {
-    // What is written.
+    // What is written. (That it lies in the bytes is asked here alone: every put asks for more.)
     pub fn text(&self) -> &[u8]
         requires { self.now.length ≤ length self.now.bytes.now }
         ensures { result.now ≡ take self.now.length self.now.bytes.now }
@@ -43,25 +45,13 @@ impl<'a> Page<'a> {
         self.length = end;
     }
 
-    // Up to k + 1 digits of n: those before the last first. (By hand: std's `write!` may answer an error, and no put here may fail.)
-    fn put_digits(&mut self, k: usize, n: usize)
-        requires { (self.old.length + k < length self.old.bytes.now) × (k < 20) }
-        ensures text { Writes (digits k n) self.old self.new }
-        ensures same { SamePage self.old self.new }
-    {
-        let last = (n % 10) as u8;
-        if 0 < k && 10 <= n {
-            self.put_digits(k - 1, n / 10);
-        }
-        self.put_byte(b'0' + last);
-    }
-
     pub fn put_decimal(&mut self, n: usize)
         requires { self.old.length + 19 < length self.old.bytes.now }
         ensures text { Writes (decimal n) self.old self.new }
         ensures same { SamePage self.old self.new }
     {
-        self.put_digits(19, n)
+        let mut digits = Buffer::new();
+        self.put_words(digits.format(n).as_bytes());
     }
 
     // A number, and a character behind it.

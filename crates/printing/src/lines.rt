@@ -23,13 +23,7 @@ impl Line {
     pub fn is_last(self) -> bool
         ensures { result ≡ is_last self }
     {
-        match self {
-            Line::Blocked(_) => false,
-            Line::Plan { .. } => false,
-            Line::Move(_) => false,
-            Line::Arrived(_) => true,
-            Line::NoWay(_) => true,
-        }
+        matches!(self, Line::Arrived(_) | Line::NoWay(_))
     }
 }
 

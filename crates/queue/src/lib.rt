@@ -15,7 +15,8 @@ pub const ROOM: usize = Head::MAX_CELLS + 3;
 // No key, and greater than each: it stands behind the keys, so that sink reads two children of an entry without a test for the end.
 pub const NONE: u64 = u64::MAX;
 
-// The lesser key is the cell to take first: smaller cost + learned, then larger cost, then lower cell number.
+// The lesser key is the cell to take first: smaller cost + learned, then larger cost, then lower cell number. (A sum, which the laws
+// speak of: bytes put together would have to be turned into it.)
 pub fn key_of(cost: u16, learned: u16, cell: u16) -> u64
     ensures { result ≡ key_of cost learned cell }
 {

@@ -2,6 +2,6 @@
 pub mod FieldParts
 pub mod FieldBodies
 pub mod ByteOfBits
-pub mod FormTests
+pub mod PartsRead
 pub mod FormIs
 pub mod FormCases

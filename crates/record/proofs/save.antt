@@ -4,3 +4,4 @@ pub mod BitByBit
 pub mod FieldWritten
 pub mod SaveCases
 pub mod EightBits
+pub mod LearnedFront

@@ -22,10 +22,11 @@ fn sides_test(bytes: &[u8]) -> bool
     if bytes.len() < GOAL_AT {
         return false;
     }
-    begins(&bytes[WIDTH_AT..], Tag::Width, 1) & begins(&bytes[HEIGHT_AT..], Tag::Height, 1)
+    begins(&bytes[WIDTH_AT..], Tag::Width, 1) && begins(&bytes[HEIGHT_AT..], Tag::Height, 1)
 }
 
 // Whether the rest is, of a record of n cells, and nothing comes after.
+#[tactic(auto, unfolding(crate::specs::Form::rest_test))]
 fn rest_test(bytes: &[u8], n: usize) -> bool
     requires { n ≤ max_cells }
     ensures { result ≡ rest_test n bytes.now }
@@ -36,23 +37,23 @@ fn rest_test(bytes: &[u8], n: usize) -> bool
     let at_learned = learned_at(n);
     let at_link = link_at(n);
     begins(&bytes[GOAL_AT..], Tag::Goal, 2)
-        & (begins(&bytes[CELL_AT..], Tag::Cell, 2)
-            & (begins(&bytes[GROUND_AT..], Tag::Ground, ground_size(n))
-                & (spare_clear(&bytes[GROUND_AT..], n)
-                    & (begins(&bytes[at_learned..], Tag::Learned, 2 * n)
-                        & begins(&bytes[at_link..], Tag::Link, n)))))
+        && begins(&bytes[CELL_AT..], Tag::Cell, 2)
+        && begins(&bytes[GROUND_AT..], Tag::Ground, ground_size(n))
+        && spare_clear(&bytes[GROUND_AT..], n)
+        && begins(&bytes[at_learned..], Tag::Learned, 2 * n)
+        && begins(&bytes[at_link..], Tag::Link, n)
 }
 
-// The head that a record holds.
+// The head that a record holds. (The sides are read here and in `form_check`: the form needs them before it is known that there is a head.)
 #[tactic(auto, unfolding(model::specs::Record::head_of))]
 pub fn head_of(bytes: &[u8]) -> Head
     requires { ground_at ≤ length bytes.now }
     ensures { result ≡ head_of bytes.now }
 {
-    let width = byte_of(&bytes[WIDTH_AT..], 0) as usize;
-    let height = byte_of(&bytes[HEIGHT_AT..], 0) as usize;
-    let goal = big_of(&bytes[GOAL_AT..], 0) as usize;
-    let cell = big_of(&bytes[CELL_AT..], 0) as usize;
+    let width = byte_of(&bytes[WIDTH_AT..], 0).into();
+    let height = byte_of(&bytes[HEIGHT_AT..], 0).into();
+    let goal = big_of(&bytes[GOAL_AT..], 0).into();
+    let cell = big_of(&bytes[CELL_AT..], 0).into();
     Head::new(width, height, goal, cell)
 }
 
@@ -83,7 +84,8 @@ pub fn form_check(bytes: &[u8]) -> Result<(), Reason>
         return Err(Reason::Sides);
     }
     if rest_test(bytes, width * height) {
-        return Ok(());
+        Ok(())
+    } else {
+        Err(Reason::Form)
     }
-    Err(Reason::Form)
 }

@@ -13,7 +13,8 @@ use crate::form::{form_check, head_of, read_into};
 use checks::sound::sound;
 use model::{Changed, Head, Reason};
 
-// What is asked of the bytes alone, refusals 8, 1, 8 and 3; and the head that they hold.
+// What is asked of the bytes alone, refusals 8, 1, 8 and 3; and the head that they hold. (3 is one comparison: `checks` asks it between
+// other tests.)
 #[tactic(auto, using(crate::proofs::form::FormCases::form_formed, model::proofs::Calls::Acceptance::cells_few))]
 fn open_record(bytes: &[u8]) -> Result<Head, Reason>
     ensures { result ≡ headed bytes.now (open_check bytes.now) }
@@ -56,7 +57,7 @@ fn holds_sound(bytes: &[u8], head: Head) -> bool
     read_sound(bytes, head, &mut ground, &mut learned, &mut link)
 }
 
-// What is asked of the bytes and of the lists; and the head.
+// What is asked of the bytes and of the lists; and the head. (The least of three lengths, as in `checks`.)
 fn load_answer(bytes: &[u8], ground: &[u8], learned: &[u16], link: &[u8]) -> Result<Head, Reason>
     ensures { result ≡ headed bytes.now
         (load_check bytes.now (lent_with ground.now learned.now link.now)) }
@@ -67,12 +68,13 @@ fn load_answer(bytes: &[u8], ground: &[u8], learned: &[u16], link: &[u8]) -> Res
         return Err(Reason::Short);
     }
     if holds_sound(bytes, opened) {
-        return Ok(opened);
+        Ok(opened)
+    } else {
+        Err(Reason::Unsound)
     }
-    Err(Reason::Unsound)
 }
 
-// Load.
+// Load. (No `?`: the reason goes into an answer of the call's own.)
 pub fn load(bytes: &[u8], ground: &mut [u8], learned: &mut [u16], link: &mut [u8]) -> Changed
     ensures { after result (lent_with ground.new learned.new link.new)
         ≡ loaded bytes.now (lent_with ground.old learned.old link.old) }
@@ -107,7 +109,8 @@ pub fn unpack(
 {
     let opened = open_record(bytes)?;
     if read_sound(bytes, opened, ground, learned, link) {
-        return Ok(opened);
+        Ok(opened)
+    } else {
+        Err(Reason::Unsound)
     }
-    Err(Reason::Unsound)
 }

@@ -17,6 +17,7 @@ pub enum Tag {
 }
 
 impl Tag {
+    // (No From: `into` would not say that it is the byte.)
     pub fn byte(self) -> u8
         ensures { result ≡ tag_byte self }
     {

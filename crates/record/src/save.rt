@@ -51,15 +51,17 @@ fn put_pair(part: &mut [u8], at: usize, x: u16)
 }
 
 // The learned values of the first n cells, two bytes each.
-fn put_learned(part: &mut [u8], learned: &[u16], n: usize)
-    requires { (2 * n < 65536) × (n ≤ length learned.now) × (3 + 2 * n ≤ length part.old) }
-    ensures { part.new ≡ fronted (field 6 (gathered n (learned_bytes learned.now))) part.old }
+fn put_learned(part: &mut [u8], learned: &[u16])
+    requires { (2 * length learned.now < 65536) × (3 + 2 * length learned.now ≤ length part.old) }
+    ensures { part.new ≡ fronted (field 6 (gathered (length learned.now) (learned_bytes learned.now))) part.old }
 {
-    put_front(part, Tag::Learned, 2 * n);
-    for i in 0..n {
-        put_pair(part, 3 + 2 * i, learned[i]);
+    put_front(part, Tag::Learned, 2 * learned.len());
+    for (i, value) in learned.iter().enumerate() {
+        put_pair(part, 3 + 2 * i, *value);
     }
 }
+
+// (Eight cells go by two products, for speed: a shift and a division a cell took five times as long.)
 
 // Four cells as four bits, the first the lowest. In x they lie 8 bits apart; the product has x four times, each 7 bits lower than
 // the one before, and so the four side by side from bit 24 on, where nothing else lies.
@@ -140,7 +142,7 @@ pub fn write_record(head: Head, ground: &[u8], learned: &[u16], link: &[u8], buf
     let at_link = link_at(n);
     put_head(head, buffer);
     put_ground(&mut buffer[GROUND_AT..], ground, n);
-    put_learned(&mut buffer[at_learned..], learned, n);
+    put_learned(&mut buffer[at_learned..], &learned[..n]);
     put_field(&mut buffer[at_link..], Tag::Link, &link[..n]);
 }
 
@@ -174,7 +176,7 @@ fn save_record(
     ensures { after_save (saved_as head result) buffer.new
         ≡ saved head (lent_with ground.now learned.now link.now) buffer.old }
 {
-    save_check(head, ground, learned, link, &buffer[..])?;
+    save_check(head, ground, learned, link, buffer)?;
     write_record(head, ground, learned, link, buffer);
     Ok(record_length(head.width * head.height))
 }

@@ -7,7 +7,7 @@ use grid::opposite;
 use grid::plot::Plot;
 use search::Scratch;
 
-// What is left of a route of this many steps at a cell of cost g.
+// What is left of a route of this many steps at a cell of cost g. (Steps are a usize in the answer, and their bound is one of one number.)
 fn left_at(steps: usize, g: u16) -> u16
     requires { steps < 65536 }
     ensures { result ≡ steps - g }
@@ -29,7 +29,7 @@ pub fn raise(learned: &mut [u16], cost: &[u16], list: &[u16], steps: usize)
     }
 }
 
-// Links along the trail, back from c, whose cost is v.
+// Links along the trail, back from c, whose cost is v. (Directions are the bytes that C reads in trail and link.)
 pub fn relink(plot: Plot, trail: &[u8], link: &mut [u8], v: usize, c: usize)
     requires { (c < plot.cells) × (plot.cells ≤ length trail.now) × (plot.cells ≤ length link.old) }
     ensures { link.new ≡ relinked plot.width plot.height trail.now v c link.old }
@@ -37,8 +37,7 @@ pub fn relink(plot: Plot, trail: &[u8], link: &mut [u8], v: usize, c: usize)
     let mut at = c;
     for _ in 0..v {
         let d = trail[at];
-        let back = opposite(d);
-        let Some(b) = plot.ahead(at, at % plot.width, back) else {
+        let Some(b) = plot.ahead_of(at, opposite(d)) else {
             return;
         };
         link[b] = d;
@@ -65,8 +64,6 @@ pub(crate) fn improve(
         → learned.new ≡ raised n steps learned.old mark scratch.now.cost.now }
     ensures link { link.new ≡ relinked plot.width plot.height scratch.now.trail.now (get_or scratch.now.cost.now c 0) c link.old }
 {
-    let cost = &*scratch.cost;
-    let trail = &*scratch.trail;
-    raise(learned, cost, list, steps);
-    relink(plot, trail, link, cost[c] as usize, c);
+    raise(learned, scratch.cost, list, steps);
+    relink(plot, scratch.trail, link, usize::from(scratch.cost[c]), c);
 }

@@ -10,7 +10,7 @@ use crate::heads::{CELL_AT, COUNT_AT, HEAD_SIZE, head_in, set_entry, set_head};
 use crate::numbers::{changed_answer, given_number, move_answer, plan_answer, refusal};
 use calls::advance::advance;
 use calls::layout::layout;
-use calls::list::{list_count, list_question};
+use calls::list::{list_cells, list_question};
 use calls::plan::plan;
 use calls::report::report;
 use model::Reason;
@@ -75,7 +75,7 @@ pub extern "C" fn salenduro_buffers_plan(
     if head.len() < HEAD_SIZE {
         return refusal(Reason::Short);
     }
-    let planned = plan(head_in(&head[..]), ground, learned, link, mark, cost, trail);
+    let planned = plan(head_in(head), ground, learned, link, mark, cost, trail);
     let outcome = planned.outcome;
     set_entry(head, COUNT_AT, outcome.verdict(), planned.expanded);
     plan_answer(outcome)
@@ -94,12 +94,13 @@ pub extern "C" fn salenduro_buffers_move(
     if head.len() < HEAD_SIZE {
         return refusal(Reason::Short);
     }
-    let moved = advance(head_in(&head[..]), ground, learned, link);
+    let moved = advance(head_in(head), ground, learned, link);
     let next = moved.head;
     set_entry(head, CELL_AT, moved.verdict(), next.cell);
     move_answer(next.cell, moved.step)
 }
 
+// (The bare number, as document 01 has the question answer.)
 #[unsafe(no_mangle)]
 pub extern "C" fn salenduro_buffers_question(
     head: &[usize],
@@ -131,7 +132,7 @@ pub extern "C" fn salenduro_buffers_list(
     if head.len() < HEAD_SIZE {
         return refusal(Reason::Short);
     }
-    given_number(list_count(head_in(head), ground, learned, link, list))
+    given_number(list_cells(head_in(head), ground, learned, link, list))
 }
 
 #[unsafe(no_mangle)]
@@ -167,6 +168,5 @@ pub extern "C" fn salenduro_buffers_load(
     }
     let read = load(bytes, ground, learned, link);
     set_head(head, read);
-    let verdict = read.verdict;
-    changed_answer(verdict)
+    changed_answer(read.verdict)
 }

@@ -30,8 +30,7 @@ fn report(bytes: &mut [u8], c: usize) -> Result<u32, Reason>
 pub extern "C" fn salenduro_report(bytes: &mut [u8], cell: u32) -> u32
     ensures { after_c result bytes.new ≡ reported_c bytes.old cell }
 {
-    let c = cell as usize;
-    report(bytes, c).unwrap_or_else(refusal)
+    report(bytes, cell as usize).unwrap_or_else(refusal)
 }
 
 fn plan(bytes: &mut [u8]) -> Result<u32, Reason>
@@ -54,8 +53,7 @@ fn plan(bytes: &mut [u8]) -> Result<u32, Reason>
         &mut trail,
     );
     write_record(head, &ground, &learned, &link, bytes);
-    let outcome = planned.outcome;
-    Ok(plan_answer(outcome))
+    Ok(plan_answer(planned.outcome))
 }
 
 #[unsafe(no_mangle)]
@@ -74,9 +72,8 @@ fn advance(bytes: &mut [u8]) -> Result<u32, Reason>
     let given = unpack(bytes, &mut ground, &mut learned, &mut link)?;
     let moved = onward(given, &ground, &learned, &mut link);
     moved.verdict()?;
-    let head = moved.head;
-    write_record(head, &ground, &learned, &link, bytes);
-    Ok(head.cell as u32)
+    write_record(moved.head, &ground, &learned, &link, bytes);
+    Ok(moved.head.cell as u32)
 }
 
 #[unsafe(no_mangle)]

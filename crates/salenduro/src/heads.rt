@@ -1,4 +1,5 @@
-// The head array that a host keeps: width, height, goal, the cart's cell, and the count of expanded cells of the last plan.
+// The head array that a host keeps: width, height, goal, the cart's cell, and the count of expanded cells of the last plan. (An array:
+// C keeps it.)
 ghost use Rattle.std.specs.Prelude.{◌≡◌, ◌≤◌, ◌<◌, length};
 ghost use Rattle.salenduro.specs.Heads.{head_size, head_in, head_set, entry_set};
 
@@ -34,7 +35,7 @@ pub fn set_head(head: &mut [usize], changed: Changed)
     head[COUNT_AT] = 0;
 }
 
-// Plan and move, once accepted, set one.
+// Plan and move, once accepted, set one. (A verdict beside a number: a refusal hands back a head too.)
 pub fn set_entry(head: &mut [usize], at: usize, verdict: Result<(), Reason>, v: usize)
     requires { at < length head.old }
     ensures { head.new ≡ entry_set verdict at v head.old }

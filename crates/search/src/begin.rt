@@ -6,11 +6,12 @@ ghost use Rattle.search.specs.LentLists.{scratch_of, SameScratch};
 ghost use Rattle.search.specs.Agreeing.{Became};
 ghost use Rattle.search.specs.Begin.{CanBegin};
 
-use crate::lent::Scratch;
+use crate::lent::{Mark, Scratch};
 use queue::{Queue, key_of};
 
 // Scratch as a search begins, and a queue of the cart's cell. (Each list goes by a name of its own: where a part of it is lent straight
-// out of the struct, as `scratch.mark[..n]`, the check forgets what the list holds.)
+// out of the struct, as `scratch.mark[..n]`, the check forgets what the list holds. An unseen cell has the largest cost, and trail 0 is none:
+// C reads them. Learned is read and the others are written, here and in `expand`: a struct around the three would owe that they agree.)
 pub fn begin(cell: usize, learned: &[u16], scratch: &mut Scratch, queue: &mut Queue)
     requires { CanBegin queue.old.cells cell learned.now (scratch_of scratch.old) queue.old.heap.now queue.old.place.now }
     ensures begun { Became learned.now (begun queue.old.cells cell (scratch_of scratch.old)) scratch.new queue.new }
@@ -21,10 +22,10 @@ pub fn begin(cell: usize, learned: &[u16], scratch: &mut Scratch, queue: &mut Qu
     let mark = &mut *scratch.mark;
     let cost = &mut *scratch.cost;
     let trail = &mut *scratch.trail;
-    mark[..n].fill(0);
+    mark[..n].fill(Mark::Unseen as u8);
     cost[..n].fill(u16::MAX);
     trail[..n].fill(0);
-    mark[cell] = 1;
+    mark[cell] = Mark::Waiting as u8;
     cost[cell] = 0;
     queue.heap[0] = 0;
     queue.waiting = 0;

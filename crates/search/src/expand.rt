@@ -8,14 +8,14 @@ ghost use Rattle.search.specs.LentLists.{scratch_of, SameScratch};
 ghost use Rattle.search.specs.Waiting.{looked_at};
 ghost use Rattle.search.specs.Agreeing.{Agree, Became};
 
-use crate::lent::Scratch;
+use crate::lent::{Mark, Scratch};
 use grid::plot::Plot;
 use queue::{Queue, key_of};
 
 // (That queue and scratch agree is a `requires` and no ghost field: a struct of references owes one at each write, and
 // between the writes of `reach` they do not agree.)
 
-// The key of a cell comes in, or is lowered where the cell waits.
+// The key of a cell comes in, or is lowered where the cell waits. (A flag and no closure: the one caller has it at hand.)
 fn put(queue: &mut Queue, waits: bool, v: u64)
     requires there { waits ≡ true → Waits queue.old.cells queue.old.waiting queue.old.heap.now queue.old.place.now v }
     requires away { waits ≡ false → Absent queue.old.cells queue.old.waiting queue.old.heap.now queue.old.place.now v }
@@ -25,9 +25,9 @@ fn put(queue: &mut Queue, waits: bool, v: u64)
 {
     if waits {
         queue.lower(v);
-        return;
+    } else {
+        queue.push(v);
     }
-    queue.push(v);
 }
 
 // Cell y is reached at cost g by direction d, and waits.
@@ -39,8 +39,8 @@ fn reach(learned: &[u16], scratch: &mut Scratch, queue: &mut Queue, y: usize, g:
     ensures same { SameScratch scratch.old scratch.new × SameQueue queue.old queue.new }
 {
     let k = key_of(g, learned[y], y as u16);
-    let waits = scratch.mark[y] == 1;
-    scratch.mark[y] = 1;
+    let waits = scratch.mark[y] == Mark::Waiting as u8;
+    scratch.mark[y] = Mark::Waiting as u8;
     scratch.cost[y] = g;
     scratch.trail[y] = d;
     put(queue, waits, k);
@@ -89,7 +89,7 @@ pub fn expand(
 {
     let g = scratch.cost[x] as u32 + 1;
     let column = x % plot.width;
-    scratch.mark[x] = 2;
+    scratch.mark[x] = Mark::Expanded as u8;
     queue.pop();
     for d in 1..=4 {
         if let Some(y) = plot.ahead(x, column, d) {

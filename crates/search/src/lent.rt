@@ -1,6 +1,14 @@
 // What a search is lent beside the data: scratch, and a working space.
 
-// (Marks and directions are bytes of the C interface: mark 0 unseen, 1 waiting, 2 expanded; trail 0 none.)
+// What a search knows of a cell: its byte in mark.
+#[derive(Clone, Copy, Debug, PartialEq, Eq)]
+pub enum Mark {
+    Unseen,
+    Waiting,
+    Expanded,
+}
+
+// (Marks and directions are bytes of the C interface.)
 #[derive(Drop)]
 pub struct Scratch<'a> {
     pub mark: &'a mut [u8],

@@ -20,7 +20,8 @@ pub fn stops(
 {
     let mut at = c;
     let mut left = learned[c];
-    // (A walk: a `for` over what is left would ask for the goal twice, in the loop and after it.)
+    // (A walk: a `for` over what is left would ask for the goal twice, in the loop and after it. `Plot::leads` is the same without the
+    // memory; what both do at a cell is `descend`.)
     while at != goal {
         if gone[at] != 0 {
             return false;

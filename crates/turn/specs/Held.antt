@@ -1,5 +1,5 @@
 -- What a drive holds, as the drive of the definitions.
-use Rattle.std.specs.Prelude.{◌≡◌}
+use Rattle.std.specs.Prelude.{◌≡◌, length}
 use Rattle.model.specs.Lent.{Lent, lent_with}
 use Rattle.search.specs.LentLists.{scratch_of, SameScratch}
 use Rattle.search.specs.declared.lent.Workspace.{Workspace}
@@ -18,9 +18,12 @@ drive_of d = drive_with d.head (lent_of d) (scratch_of d.scratch) d.moves
 abbrev pub CanPlan : Drive → Workspace → Type 0
 CanPlan d s = Planable d.head (lent_of d) (scratch_of d.scratch) s.heap.now s.place.now s.gone.now s.list.now
 
--- what a turn leaves: the same lists
+-- what a turn leaves: the same lists, and no shorter or longer
 pub record SameDrive (old new : Drive) : Type 0 where
   pub ground : new.ground.ghost_name ≡ old.ground.ghost_name
   pub learned : new.learned.ghost_name ≡ old.learned.ghost_name
   pub link : new.link.ghost_name ≡ old.link.ghost_name
+  pub ground_long : length new.ground.now ≡ length old.ground.now
+  pub learned_long : length new.learned.now ≡ length old.learned.now
+  pub link_long : length new.link.now ≡ length old.link.now
   pub scratch : SameScratch old.scratch new.scratch

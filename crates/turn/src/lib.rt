@@ -36,7 +36,7 @@ fn unknown_ahead(head: Head, truth: &[u8], ground: &[u8], d: u8) -> Option<usize
     ensures { result ≡ cell_on (cells_of head) (unknown_ahead head truth.now ground.now d) }
 {
     let plot = Plot::new(head.width, head.height);
-    let c = plot.ahead(head.cell, head.cell % head.width, d)?;
+    let c = plot.ahead_of(head.cell, d)?;
     if truth[c] != 1 {
         return None;
     }
@@ -46,7 +46,7 @@ fn unknown_ahead(head: Head, truth: &[u8], ground: &[u8], d: u8) -> Option<usize
     Some(c)
 }
 
-// The first such neighbour in direction order.
+// The first such neighbour in direction order. (Directions are the bytes that C reads in link and trail.)
 fn sighting(head: Head, truth: &[u8], ground: &[u8]) -> Option<usize>
     requires { InSight head truth.now ground.now }
     ensures { result ≡ cell_on (cells_of head) (sighting head truth.now ground.now) }
@@ -60,9 +60,7 @@ fn plan_line(outcome: Outcome, expanded: usize) -> Line
 {
     match outcome {
         Outcome::Route(length) => Line::Plan { length, expanded },
-        Outcome::NoWay => Line::NoWay(expanded),
-        Outcome::Arrived => Line::NoWay(expanded),
-        Outcome::Refused(_) => Line::NoWay(expanded),
+        Outcome::NoWay | Outcome::Arrived | Outcome::Refused(_) => Line::NoWay(expanded),
     }
 }
 
@@ -78,6 +76,7 @@ impl<'a> Drive<'a> {
         ensures same { SameDrive self.old self.new × SameSpace space.old space.new }
     {
         let head = self.head;
+        // (Each list by a name of its own: the check does not follow two that are lent out of the struct at once.)
         let ground = &mut *self.ground;
         let learned = &mut *self.learned;
         let link = &mut *self.link;

@@ -6,7 +6,7 @@ use crate::state::State;
 use std::io;
 
 impl State {
-    pub fn layout(
+    pub(crate) fn layout(
         &mut self,
         rt: &impl Print,
         width: usize,
@@ -28,7 +28,7 @@ impl State {
         answers::verdict(rt, changed.verdict)
     }
 
-    pub fn report(&mut self, rt: &impl Print, c: usize) -> io::Result<()> {
+    pub(crate) fn report(&mut self, rt: &impl Print, c: usize) -> io::Result<()> {
         let lending = self.lending;
         let changed = calls::report::report(
             self.head,
@@ -41,7 +41,7 @@ impl State {
         answers::verdict(rt, changed.verdict)
     }
 
-    pub fn plan(&mut self, rt: &impl Print) -> io::Result<()> {
+    pub(crate) fn plan(&mut self, rt: &impl Print) -> io::Result<()> {
         let lending = self.lending;
         let planned = calls::plan::plan(
             self.head,
@@ -58,7 +58,7 @@ impl State {
     }
 
     // `move`, which is a word of the language.
-    pub fn advance(&mut self, rt: &impl Print) -> io::Result<()> {
+    pub(crate) fn advance(&mut self, rt: &impl Print) -> io::Result<()> {
         let lending = self.lending;
         let moved = calls::advance::advance(
             self.head,
@@ -71,7 +71,7 @@ impl State {
     }
 
     // The question, then list with its front, and list by its count.
-    pub fn list(&mut self, rt: &impl Print) -> io::Result<()> {
+    pub(crate) fn list(&mut self, rt: &impl Print) -> io::Result<()> {
         let head = self.head;
         let lending = self.lending;
         let g = &lending.lend(Buffer::Ground, &mut self.ground)[..];
@@ -83,6 +83,6 @@ impl State {
         let length = front.len();
         entries(rt, 0, b" list", front, length)?;
         let count = calls::list::list_count(head, g, l, k, buffer);
-        say(rt, b" count", count.unwrap_or(0))
+        say(rt, b" count", count)
     }
 }

@@ -13,8 +13,8 @@ pub enum Buffer {
 }
 
 impl Buffer {
-    // The buffer with a number of the script, which is 0 where none is meant.
-    pub fn numbered(number: usize) -> Option<Self> {
+    // The buffer with a number of the script, which is 0 where none is meant. (No TryFrom: that there is none is an answer, and no error.)
+    pub(crate) fn numbered(number: usize) -> Option<Self> {
         match number {
             1 => Some(Self::Ground),
             2 => Some(Self::Learned),
@@ -36,7 +36,7 @@ pub struct Lending {
 }
 
 impl Lending {
-    pub fn lend<T: Copy>(self, which: Buffer, buffer: &mut [T]) -> &mut [T] {
+    pub(crate) fn lend<T: Copy>(self, which: Buffer, buffer: &mut [T]) -> &mut [T] {
         let fewer = (self.short == Some(which)) as usize;
         let n = self.room.saturating_sub(fewer).min(buffer.len());
         &mut buffer[..n]

@@ -14,7 +14,7 @@ use lending::Lending;
 use model::Head;
 use reading::read_full;
 use script::Order;
-use show::{say, text};
+use show::text;
 use state::State;
 use std::io;
 
@@ -61,10 +61,10 @@ fn tell(rt: &impl Print, before: Head, head: Head) -> io::Result<()> {
     if before == head {
         return Ok(());
     }
-    say(rt, b"; head", head.width)?;
-    show::number(rt, head.height)?;
-    show::number(rt, head.goal)?;
-    show::number(rt, head.cell)
+    print!(rt;
+        "; head {} {} {} {}",
+        head.width, head.height, head.goal, head.cell
+    )
 }
 
 // A line is printed with what comes of it, and whether any entry of a buffer is then another.

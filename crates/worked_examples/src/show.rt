@@ -1,24 +1,24 @@
 // Printing: words, numbers, and the entries of a buffer with their checksum.
 use std::io;
 
-pub fn text(rt: &impl Print, words: &[u8]) -> io::Result<()> {
+pub(crate) fn text(rt: &impl Print, words: &[u8]) -> io::Result<()> {
     rt.write_all(words)
 }
 
 // A number, after a space.
-pub fn number(rt: &impl Print, n: usize) -> io::Result<()> {
+pub(crate) fn number(rt: &impl Print, n: usize) -> io::Result<()> {
     print!(rt; " {n}")
 }
 
 // A number, after some words.
-pub fn say(rt: &impl Print, words: &[u8], n: usize) -> io::Result<()> {
+pub(crate) fn say(rt: &impl Print, words: &[u8], n: usize) -> io::Result<()> {
     text(rt, words)?;
     number(rt, n)
 }
 
 // The checksum of a buffer, from `sum` on. Its first n entries are printed, after its name. The factor is odd, so that what differs
-// modulo 2^32 goes on to differ: no entry hides that one before it is another.
-pub fn entries<T: Copy>(
+// modulo 2^32 goes on to differ: no entry hides that one before it is another. (Where n is 0 only the sum is made: one test, and no closure.)
+pub(crate) fn entries<T: Copy>(
     rt: &impl Print,
     sum: usize,
     name: &[u8],

@@ -22,7 +22,7 @@ pub struct State {
 
 impl State {
     // Every byte holds b, and every 16-bit entry w.
-    pub fn fresh(lending: Lending, b: u8, w: u16) -> Self {
+    pub(crate) fn fresh(lending: Lending, b: u8, w: u16) -> Self {
         let bytes = [b; ROOM];
         let words = [w; ROOM];
         Self {
@@ -39,7 +39,7 @@ impl State {
     }
 
     // What the three buffers hold at c.
-    pub fn set_cell(&mut self, c: usize, ground: usize, learned: usize, link: usize) {
+    pub(crate) fn set_cell(&mut self, c: usize, ground: usize, learned: usize, link: usize) {
         if c < ROOM {
             self.ground[c] = (ground % 256) as u8;
             self.learned[c] = (learned % 65536) as u16;
@@ -48,21 +48,16 @@ impl State {
     }
 
     // The first n entries of each buffer, and the checksum of all.
-    pub fn tell_entries(&self, rt: &impl Print, n: usize) -> io::Result<()> {
+    pub(crate) fn tell_entries(&self, rt: &impl Print, n: usize) -> io::Result<()> {
         say(rt, b"\n  sum", self.checksum(rt, n)?)
     }
 
     // The checksum of every entry of every buffer. The first n entries of each are printed.
-    pub fn checksum(&self, rt: &impl Print, n: usize) -> io::Result<usize> {
+    pub(crate) fn checksum(&self, rt: &impl Print, n: usize) -> io::Result<usize> {
         let mut sum = entries(rt, 0, b"\n  ground", &self.ground, n)?;
         sum = entries(rt, sum, b"\n  learned", &self.learned, n)?;
         sum = entries(rt, sum, b"\n  link", &self.link, n)?;
-        self.checksum_on(rt, n, sum)
-    }
-
-    // The same of scratch and of list's buffer, from a checksum on.
-    fn checksum_on(&self, rt: &impl Print, n: usize, from: usize) -> io::Result<usize> {
-        let mut sum = entries(rt, from, b"\n  mark", &self.mark, n)?;
+        sum = entries(rt, sum, b"\n  mark", &self.mark, n)?;
         sum = entries(rt, sum, b"\n  cost", &self.cost, n)?;
         sum = entries(rt, sum, b"\n  trail", &self.trail, n)?;
         entries(rt, sum, b"\n  list", &self.list, n)

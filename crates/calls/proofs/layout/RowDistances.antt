@@ -2,16 +2,14 @@
 -- Assumes nothing.
 use Prim.Native.Nat.{ℕ, zero, suc, ◌+◌, ◌*◌, ◌≤◌, ◌<◌}
 use mathlib.Core.Path.{◌≡◌, refl, ap, ◌∙◌}
-use mathlib.Core.Bool.{false}
 use mathlib.Core.List.{List}
-use native.Mathlib.Nat.{zero-mul, suc-mul, mul_comm, mul-le-mul, mod-eq_of_lt, mul-add-mod_self_right, div-le_self, div-eq_of_lt-le}
+use native.Mathlib.Nat.{zero-mul, suc-mul, mod-eq_of_lt, mul-add-mod_self_right, div-eq_of_lt-le}
 use native.Mathlib.Numerals.{add-one}
 use native.Mathlib.Omega.{arith}
 use lib.ListN.{length, set, length-set}
 use Rattle.model.specs.Lists.{filled}
-use Rattle.model.specs.Plot.{bad_sides, cells, row, column, gap, distance}
-use Rattle.model.proofs.Calls.Acceptance.{side_wide, cells_few, row_within}
-use Rattle.model.proofs.Lists.FillLoop.{Filled, fill_begin, fill_end}
+use Rattle.model.specs.Plot.{row, column, gap, distance}
+use Rattle.model.proofs.Lists.FillLoop.{Filled, fill_begin}
 use Rattle.calls.specs.Rows.{in_row, row_filled}
 
 -- One row -------------------------------------------------------------------------------------------------------------------------
@@ -81,17 +79,3 @@ rows_next {w} {goal} {r} {l₀} {l} g l' f e q =
         long = row_long (record { is = q }) ∙ f.fills.long;
       });
     }
-
-pub rows_end : {w goal r : ℕ} {l₀ l : List ℕ} (h : ℕ) → RowsFilled w goal r l₀ l → r ≡ h → l ≡ filled (cells w h) (distance w goal) l₀
-rows_end {w} {goal} {r} h f e = fill_end (cells w h) f.fills (ap (λ (k : ℕ). k * w) e ∙ mul_comm h w)
-
--- a row of the plot has room
-pub row_room : {w goal r : ℕ} {l₀ l : List ℕ} (h : ℕ) → cells w h ≤ length l₀ → r < h → RowsFilled w goal r l₀ l → r * w + w ≤ length l
-row_room {w} {r = r} h room i f =
-    let last : suc r * w ≤ h * w = mul-le-mul i (omega arith) in omega (arith, suc-mul r w, mul_comm h w, f.fills.long)
-
--- and its distances are small
-pub rows_few : (w h goal r : ℕ) → bad_sides w h ≡ false → goal < cells w h → r < h → row w goal + r + w ≤ 65536
-rows_few w h goal r sides on i =
-    let high : 1 * h ≤ w * h = mul-le-mul (side_wide w h sides) (omega arith) in
-    omega (arith, div-le_self goal w, cells_few w h sides, row_within w h sides)

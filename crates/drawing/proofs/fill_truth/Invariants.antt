@@ -4,4 +4,4 @@ use Rattle.model.proofs.Lists.FillLoop.{Filled}
 use Rattle.drawing.proofs.fill_truth.Given as goal
 
 abbrev pub invariant-loop-c : goal.invariant-loop-c
-invariant-loop-c l = Filled (truth_in l.w l.rows) l.c l.initial.truth l.truth
+invariant-loop-c l = Filled (truth_in l.plot.width l.rows) l.c l.initial.truth l.truth

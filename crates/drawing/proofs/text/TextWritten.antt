@@ -6,25 +6,25 @@ use Rattle.std.specs.Cmp.Lexicographic.{pointwise}
 use Rattle.std.proofs.lemmas.List.Edits.{length-between, get_or-between}
 use Prim.Native.Nat.{ℕ, ◌+◌, ◌*◌, ◌≤◌, ◌<◌}
 use mathlib.Core.Path.{◌≡◌, refl, sym, ap, ◌∙◌}
-use mathlib.Core.Bool.{Bool, true, false, not, ◌&&◌, ◌||◌}
+use mathlib.Core.Bool.{Bool, false, ◌&&◌}
 use mathlib.Core.List.{List, [], ◌∷◌, ◌++◌}
 use native.Mathlib.Numerals.{add-one}
 use native.Mathlib.Nat.{mul-one, mul_comm, mul-le-mul, suc-mul, le_refl}
 use native.Mathlib.Omega.{arith}
 use borrow.Author.Tests.{ltb-false}
-use lib.Dec.{leb, ltb, eqb}
+use lib.Dec.{eqb}
 use lib.ListN.{length, get_or, replicate, length-append, length-replicate}
 use Rattle.model.specs.Lists.{gathered}
 use Rattle.model.specs.Plot.{max_side, bad_side, bad_sides}
 use Rattle.model.specs.Head.{cells_of}
 use Rattle.model.specs.declared.Head.{Head}
 use Rattle.model.specs.Record.{same}
-use Rattle.model.proofs.Lists.Bools.{or_false, not_leb}
+use Rattle.model.proofs.Lists.Bools.{or_false}
 use Rattle.model.proofs.Lists.Gathered.{length_gathered}
 use Rattle.printing.specs.Text.{line_feed, space, number, Put}
 use Rattle.printing.proofs.Appended.{put_nothing, put_then, put_as, put_long, number_few, number_kept}
 use Rattle.drawing.specs.Drawing.{character, cell_text, row_text, text}
-use Rattle.drawing.specs.Reading.{on_plot, drawn_as}
+use Rattle.drawing.specs.Reading.{drawn_as}
 
 -- Parts, one behind the other -----------------------------------------------------------------------------------------------------------
 
@@ -141,39 +141,43 @@ module _ (head : Head) (truth : List ℕ) {out : List ℕ} (d : Drawable head tr
   pub truth_room : head.height * head.width ≤ length truth
   truth_room = rw (mul_comm head.width head.height) at d.truths
 
-  -- behind each number of the first line there is room for the next, and behind the last for the rows
-  module _ {m₁ : ℕ} {l₁ : List ℕ} (p : Put 0 (number head.width space) out m₁ l₁) where
-    wide : Lined (number head.width space) out 21 m₁ l₁
-    wide = line_begin head.width space (omega (arith, d.room)) p
+  -- behind each number of the first line, whatever it is, there is room for the next, and behind the last for the rows
+  module _ (n₁ : ℕ) {m₁ : ℕ} {l₁ : List ℕ} (p : Put 0 (number n₁ space) out m₁ l₁) where
+    first : Lined (number n₁ space) out 21 m₁ l₁
+    first = line_begin n₁ space (omega (arith, d.room)) p
 
     pub height_room : m₁ + 20 < length l₁
-    height_room = omega (arith, d.room, wide.few, wide.long)
+    height_room = omega (arith, d.room, first.few, first.long)
 
-    module _ {m₂ : ℕ} {l₂ : List ℕ} (q : Put m₁ (number head.height space) l₁ m₂ l₂) where
-      high : Lined (number head.width space ++ number head.height space) out (21 + 21) m₂ l₂
-      high = line_more head.height space wide (omega (arith, d.room)) q
+    module _ (n₂ : ℕ) {m₂ : ℕ} {l₂ : List ℕ} (q : Put m₁ (number n₂ space) l₁ m₂ l₂) where
+      second : Lined (number n₁ space ++ number n₂ space) out (21 + 21) m₂ l₂
+      second = line_more n₂ space first (omega (arith, d.room)) q
 
       pub start_room : m₂ + 20 < length l₂
-      start_room = omega (arith, d.room, high.few, high.long)
+      start_room = omega (arith, d.room, second.few, second.long)
 
-      module _ {m₃ : ℕ} {l₃ : List ℕ} (r : Put m₂ (number head.cell space) l₂ m₃ l₃) where
-        started : Lined (number head.width space ++ number head.height space ++ number head.cell space) out (21 + 21 + 21) m₃ l₃
-        started = line_more head.cell space high (omega (arith, d.room)) r
+      module _ (n₃ : ℕ) {m₃ : ℕ} {l₃ : List ℕ} (r : Put m₂ (number n₃ space) l₂ m₃ l₃) where
+        third : Lined (number n₁ space ++ number n₂ space ++ number n₃ space) out (21 + 21 + 21) m₃ l₃
+        third = line_more n₃ space second (omega (arith, d.room)) r
 
         pub goal_room : m₃ + 20 < length l₃
-        goal_room = omega (arith, d.room, started.few, started.long)
+        goal_room = omega (arith, d.room, third.few, third.long)
 
-        module _ {m₄ : ℕ} {l₄ : List ℕ} (t : Put m₃ (number head.goal line_feed) l₃ m₄ l₄) where
-          line : Lined (number head.width space ++ number head.height space ++ number head.cell space ++ number head.goal line_feed) out (4 * 21) m₄ l₄
-          line = line_more head.goal line_feed started (omega (arith, d.room)) t
+        module _ (n₄ : ℕ) {m₄ : ℕ} {l₄ : List ℕ} (t : Put m₃ (number n₄ line_feed) l₃ m₄ l₄) where
+          line : Lined (number n₁ space ++ number n₂ space ++ number n₃ space ++ number n₄ line_feed) out (4 * 21) m₄ l₄
+          line = line_more n₄ line_feed third (omega (arith, d.room)) t
 
           pub rows_room : m₄ + head.height * (head.width + 1) ≤ length l₄
           rows_room = omega (arith, d.room, line.few, line.long, rows_few)
 
-          pub text_done : {next : ℕ} {l' : List ℕ} → Put m₄ (gathered head.height (row_text head.width truth)) l₄ next l'
-              → Put 0 (text (drawn_as head truth)) out next l'
-          unfolding text
-          text_done u = put_then line.pen u (omega (arith, line.pen.behind, line.few, d.room))
+  -- with the head's own four it is the drawing's text
+  pub text_done : {m₁ m₂ m₃ m₄ next : ℕ} {l₁ l₂ l₃ l₄ l' : List ℕ} → Put 0 (number head.width space) out m₁ l₁
+      → Put m₁ (number head.height space) l₁ m₂ l₂ → Put m₂ (number head.cell space) l₂ m₃ l₃ → Put m₃ (number head.goal line_feed) l₃ m₄ l₄
+      → Put m₄ (gathered head.height (row_text head.width truth)) l₄ next l' → Put 0 (text (drawn_as head truth)) out next l'
+  unfolding text
+  text_done p q r t u =
+      let a = line head.width p head.height q head.cell r head.goal t in
+      put_then a.pen u (omega (arith, a.pen.behind, a.few, d.room))
 
 -- Comparing ----------------------------------------------------------------------------------------------------------------------------
 
@@ -184,22 +188,3 @@ compared [] [] = refl
 compared [] (y ∷ ys) = refl
 compared (x ∷ xs) [] = refl
 compared (x ∷ xs) (y ∷ ys) = ap (λ (b : Bool). eqb x y && b) (compared xs ys)
-
--- A plot with its cells ----------------------------------------------------------------------------------------------------------------
-
-module _ (head : Head) where
-  pub off_sides : bad_sides head.width head.height ≡ true → false ≡ on_plot head
-  unfolding on_plot
-  off_sides e = rw (on_plot, e) refl
-
-  pub on_sides : bad_sides head.width head.height ≡ false → (ltb head.goal (cells_of head) && ltb head.cell (cells_of head)) ≡ on_plot head
-  unfolding on_plot
-  on_sides e = rw (on_plot, e) (both (cells_of head) head.goal head.cell)
-    where
-      both : (n g c : ℕ) → (ltb g n && ltb c n) ≡ not (leb n g || (leb n c || false))
-      both n g c = rw (← not_leb n g, ← not_leb n c) (go (leb n g) (leb n c))
-        where
-          go : (a b : Bool) → (not a && not b) ≡ not (a || (b || false))
-          go true b = refl
-          go false true = refl
-          go false false = refl

@@ -19,6 +19,3 @@ fill_begin entry l = record { is = refl; long = refl }
 pub fill_next : {entry : ℕ → ℕ} {k : ℕ} {l₀ l : List ℕ} (v : ℕ) → Filled entry k l₀ l → v ≡ entry k → Filled entry (k + 1) l₀ (set l k v)
 unfolding filled
 fill_next {entry} {k} {l₀} {l} v f e = record { is = rw (add-one k, f.is, e); long = length-set l k v ∙ f.long }
-
-pub fill_end : {entry : ℕ → ℕ} {k : ℕ} {l₀ l : List ℕ} (n : ℕ) → Filled entry k l₀ l → k ≡ n → l ≡ filled n entry l₀
-fill_end n f e = rw e at f.is

@@ -16,7 +16,7 @@ use Rattle.model.specs.Verdict.{Verdict}
 use Rattle.model.proofs.Lists.Bools.{and_left}
 use Rattle.model.proofs.Calls.Acceptance.{passed}
 use Rattle.record.specs.Form.{sides_test, rest_test, form_check, Formed}
-use Rattle.record.proofs.form.FormTests.{from, width_by, height_by}
+use Rattle.record.proofs.form.PartsRead.{from, width_by, height_by}
 
 pub sides_long : (bytes : List ℕ) → sides_test bytes ≡ true → goal_at ≤ length bytes
 unfolding sides_test

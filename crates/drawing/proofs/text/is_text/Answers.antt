@@ -1,25 +1,27 @@
 -- `drawing::text::is_text` meets its contract: the numbers are written, behind them the rows, and the bytes are compared with that
 -- (`TextWritten`). Assumes nothing.
-use Rattle.std.proofs.Common.{ap, ◌∙◌}
+use Rattle.std.proofs.Common.{rules, ◌∙◌}
+use mathlib.Core.Path.{ap₂}
+use lib.Seq.{take_all}
 use Rattle.model.specs.Record.{same}
 use Rattle.printing.proofs.Appended.{put_front}
 use Rattle.drawing.proofs.text.TextWritten.{roomy, height_room, start_room, goal_room, rows_room, truth_room, text_done, compared}
 use Rattle.drawing.proofs.text.is_text.Goals as goal
 
 pub put_number-requires-2 : goal.put_number-requires-2
-put_number-requires-2 c = height_room _ _ (roomy c.args.head c.requires.0 c.requires.1) c.put_number.ensures.text
+put_number-requires-2 c = height_room _ _ (roomy c.args.head c.requires.0 c.requires.1) _ c.put_number.ensures.text
 
 pub put_number-requires-3 : goal.put_number-requires-3
-put_number-requires-3 c = start_room _ _ (roomy c.args.head c.requires.0 c.requires.1) c.put_number.ensures.text c.put_number-2.ensures.text
+put_number-requires-3 c = start_room _ _ (roomy c.args.head c.requires.0 c.requires.1) _ c.put_number.ensures.text _ c.put_number-2.ensures.text
 
 pub put_number-requires-4 : goal.put_number-requires-4
 put_number-requires-4 c =
-    goal_room _ _ (roomy c.args.head c.requires.0 c.requires.1) c.put_number.ensures.text c.put_number-2.ensures.text c.put_number-3.ensures.text
+    goal_room _ _ (roomy c.args.head c.requires.0 c.requires.1) _ c.put_number.ensures.text _ c.put_number-2.ensures.text _ c.put_number-3.ensures.text
 
 pub put_rows-requires : goal.put_rows-requires
 put_rows-requires c =
     let room = roomy c.args.head c.requires.0 c.requires.1 in (
-      rows_room _ _ room c.put_number.ensures.text c.put_number-2.ensures.text c.put_number-3.ensures.text c.put_number-4.ensures.text,
+      rows_room _ _ room _ c.put_number.ensures.text _ c.put_number-2.ensures.text _ c.put_number-3.ensures.text _ c.put_number-4.ensures.text,
       truth_room _ _ room,
     )
 
@@ -27,4 +29,4 @@ pub returns : goal.returns
 returns c =
     let done = text_done _ _ (roomy c.args.head c.requires.0 c.requires.1) c.put_number.ensures.text c.put_number-2.ensures.text c.put_number-3.ensures.text
     c.put_number-4.ensures.text c.put_rows.ensures.text in
-    c.eq.ensures ∙ compared _ _ ∙ ap (same _) (c.text.ensures ∙ put_front done)
+    c.eq.ensures ∙ compared _ _ ∙ ap₂ same (search (rules, take_all)) (c.text.ensures ∙ put_front done)

@@ -17,8 +17,8 @@ returns-then-rest_test c =
     c.byte_of-width.ensures c.byte_of-height.ensures
     c.bad_sides.ensures c.if-bad_sides.false c.rest_test.ensures c.if-rest_test.true
 
-pub returns : goal.returns
-returns c =
+pub returns-else-rest_test : goal.returns-else-rest_test
+returns-else-rest_test c =
     form_rest _ c.sides_test.ensures c.if-not-sides_test.false
     c.byte_of-width.ensures c.byte_of-height.ensures
     c.bad_sides.ensures c.if-bad_sides.false c.rest_test.ensures c.if-rest_test.false

@@ -1,5 +1,5 @@
 -- `record::form::read_into` meets its contract: each buffer is read out of its part. Assumes nothing.
-use Rattle.record.proofs.form.FormTests.{read_by}
+use Rattle.record.proofs.form.PartsRead.{read_by}
 use Rattle.record.proofs.form.read_into.Goals as goal
 
 pub returns : goal.returns

@@ -29,8 +29,8 @@ returns-then-holds_sound c =
     (room_in c.if-room-opened.false (omega (arith, c.min.ensures, c.min-room.ensures)))
     (room_for_law _ _ (opened _ c.open_record.ensures c.in_ok-opened.was).placed.few) c.holds_sound.ensures c.if-holds_sound.true
 
-pub returns : goal.returns
-returns c =
+pub returns-else-holds_sound : goal.returns-else-holds_sound
+returns-else-holds_sound c =
     answer_unsound _ c.open_record.ensures c.in_ok-opened.was _ (room_for max_cells)
     (room_in c.if-room-opened.false (omega (arith, c.min.ensures, c.min-room.ensures)))
     (room_for_law _ _ (opened _ c.open_record.ensures c.in_ok-opened.was).placed.few) c.holds_sound.ensures c.if-holds_sound.false

@@ -22,8 +22,8 @@ returns-then-read_sound c =
     let read = c.read_sound.ensures in
     unpacked _ _ (answer_sound _ c.open_record.ensures c.in_ok-opened.was _ _ room room read.tells c.if-read_sound.true) refl read.reads
 
-pub returns : goal.returns
-returns c =
+pub returns-else-read_sound : goal.returns-else-read_sound
+returns-else-read_sound c =
     let room = room_here (opened _ c.open_record.ensures c.in_ok-opened.was) c.requires in
     let read = c.read_sound.ensures in
     unpacked_refused _ _ (answer_unsound _ c.open_record.ensures c.in_ok-opened.was _ _ room room read.tells c.if-read_sound.false) refl

@@ -9,7 +9,7 @@ use Rattle.replan.proofs.learn.relink.Goals as goal
 
 pub returns-in_default : goal.returns-in_default
 returns-in_default c =
-    let off = none_off (rw c.opposite-back.ensures at c.in_default.ensures) in
+    let off = none_off (rw c.opposite.ensures at c.in_default.ensures) in
     sym (relinked_off _ _ _ _ _ _ _ refl (omega (arith, c.args.plot.product, off))) ∙ c.loop.invariant.1
 
 pub bounds-link-b : goal.bounds-link-b
@@ -17,7 +17,7 @@ bounds-link-b c = omega (arith, (some_on c.in-Some.ensures).inside)
 
 pub loop-preserved : goal.loop-preserved
 loop-preserved c =
-    let on = some_on (rw c.opposite-back.ensures at c.in-Some.ensures) in
+    let on = some_on (rw c.opposite.ensures at c.in-Some.ensures) in
     let less : c.args.v - (c.loop.counter + 1) ≡ c.args.v - c.loop.counter - 1 = omega arith in (
       on.inside,
       rw less

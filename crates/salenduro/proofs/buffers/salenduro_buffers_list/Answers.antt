@@ -10,9 +10,9 @@ unfolding listed_host
 returns-then-head-lt-HEAD_SIZE c = fill_short c.args.head.now _ c.refusal.ensures (omega arith) _
 
 pub given_number-requires : goal.given_number-requires
-given_number-requires c = list_fits _ c.list_count.ensures.verdict c.list_count.ensures.counted
+given_number-requires c = list_fits _ c.list_cells.ensures.verdict c.list_cells.ensures.counted
 
 pub returns : goal.returns
 returns c =
-    list_called _ _ _ c.if-head-lt-HEAD_SIZE.false c.head_in.ensures _ c.list_count.ensures.verdict c.list_count.ensures.counted
+    list_called _ _ _ c.if-head-lt-HEAD_SIZE.false c.head_in.ensures _ c.list_cells.ensures.verdict c.list_cells.ensures.counted
     c.given_number.ensures

@@ -8,9 +8,6 @@ use Rattle.salenduro.proofs.buffers.salenduro_buffers_question.Goals as goal
 pub returns-then-head-lt-HEAD_SIZE : goal.returns-then-head-lt-HEAD_SIZE
 returns-then-head-lt-HEAD_SIZE c = c.number.ensures ∙ sym (question_short _ _ _ (omega arith))
 
-pub overflow_cast-result : goal.overflow_cast-result
-overflow_cast-result c = omega (arith, c.number.ensures)
-
 pub overflow_cast-result-2 : goal.overflow_cast-result-2
 overflow_cast-result-2 c = omega (arith, question_fits _ _ _ c.list_question.ensures)
 
