@@ -35,7 +35,7 @@ fn list_rest(
     Ok(())
 }
 
-// The cells on v steps along links, from c on, into the front of the buffer.
+// The cells on v steps along links, from c on, into the front of the buffer. (A plot is copied and links are lent, so they are no struct.)
 fn follow(plot: Plot, link: &[u8], buffer: &mut [u16], v: usize, c: usize)
     requires { Writable plot.width plot.height v c link.now buffer.old }
     ensures { buffer.new ≡ fronted (cells_from plot.width plot.height link.now v c) buffer.old }
@@ -110,7 +110,7 @@ pub fn list_cells(
     Ok(fill_route(head, ground, learned, link, buffer))
 }
 
-// The same, with 0 where it is refused: so that the whole buffer afterwards can be told.
+// The same, with 0 where it is refused: so that the whole buffer afterwards can be told. (A number: this call never failed.)
 pub fn list_count(
     head: Head,
     ground: &[u8],

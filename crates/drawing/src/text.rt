@@ -23,7 +23,7 @@ fn character(truth: u8) -> u8
     if truth == 0 { b'.' } else { b'#' }
 }
 
-// (Rows take the width, and how many they are: numbers of a plot that is written as four.)
+// A row of the drawing. (It needs the plot's width alone, and `put_rows` the two sides.)
 fn put_row(page: &mut Page<'_>, w: usize, truth: &[u8], row: usize)
     requires { (page.old.length + w < length page.old.bytes.now) × (row * w + w ≤ length truth.now) }
     ensures text { Writes (row_text w truth.now row) page.old page.new }

@@ -75,7 +75,8 @@ fn tell(rt: &impl Print, drive: &mut Drive<'_>, truth: &[u8]) -> io::Result<()>
     rt.write_all(page.text())
 }
 
-// A cart that knows nothing of the ground: soundness is tested once, and then the cores are used.
+// A cart that knows nothing of the ground: soundness is tested once, and then the cores are used. (Arrays for the largest plot, here and
+// above: there is no heap.)
 fn run(rt: &impl Print, head: Head, truth: &[u8]) -> io::Result<()>
     requires { max_cells ≤ length truth.now }
 {

@@ -25,6 +25,7 @@ pub fn key_of(cost: u16, learned: u16, cell: u16) -> u64
     (c + l) * 4294967296 + ((65535 - c) * 65536 + cell as u64)
 }
 
+// The cell of a key, which is what is left of the sum.
 pub fn cell_of(k: u64) -> usize
     ensures { result ≡ k % 65536 }
 {

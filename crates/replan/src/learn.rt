@@ -7,7 +7,7 @@ use grid::opposite;
 use grid::plot::Plot;
 use search::Scratch;
 
-// What is left of a route of this many steps at a cell of cost g. (Steps are a usize in the answer, and their bound is one of one number.)
+// What is left of a route of this many steps at a cell of cost g. (Steps are a usize in the answer. A type for this one bound would be taken apart at once.)
 fn left_at(steps: usize, g: u16) -> u16
     requires { steps < 65536 }
     ensures { result ≡ steps - g }
@@ -29,7 +29,8 @@ pub fn raise(learned: &mut [u16], cost: &[u16], list: &[u16], steps: usize)
     }
 }
 
-// Links along the trail, back from c, whose cost is v. (Directions are the bytes that C reads in trail and link.)
+// Links along the trail, back from c, whose cost is v. (Directions are the bytes that C reads in trail and link. A plot is copied and
+// both are lent, so they are no struct.)
 pub fn relink(plot: Plot, trail: &[u8], link: &mut [u8], v: usize, c: usize)
     requires { (c < plot.cells) × (plot.cells ≤ length trail.now) × (plot.cells ≤ length link.old) }
     ensures { link.new ≡ relinked plot.width plot.height trail.now v c link.old }

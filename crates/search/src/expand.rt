@@ -71,7 +71,7 @@ fn look_at(
     reach(learned, scratch, queue, y, g as u16, d);
 }
 
-// Cell x, the first of the queue, is expanded.
+// Cell x, the first of the queue, is expanded. (Directions are the bytes that C reads in trail.)
 pub fn expand(
     plot: Plot,
     ground: &[u8],
