@@ -98,10 +98,12 @@ pub fn read_learned(part: &[u8], learned: &mut [u16], n: usize)
     }
 }
 
-#[tactic(auto, using(crate::proofs::fields::Copied::copied_filled))]
+// (A loop here, and in save's put_field: std's copy of so many bytes as a run decides would have the archive for C need memmove.)
 pub fn read_links(part: &[u8], link: &mut [u8], n: usize)
     requires { (3 + n ≤ length part.now) × (n ≤ length link.old) }
     ensures { link.new ≡ filled n (byte_at part.now) link.old }
 {
-    link[..n].copy_from_slice(&part[3..3 + n]);
+    for c in 0..n {
+        link[c] = byte_of(part, c);
+    }
 }

@@ -28,9 +28,10 @@ fn put_field(part: &mut [u8], tag: Tag, bytes: &[u8])
     requires { (length bytes.now < 65536) × (3 + length bytes.now ≤ length part.old) }
     ensures { part.new ≡ fronted (field (tag_byte tag) bytes.now) part.old }
 {
-    let size = bytes.len();
-    put_front(part, tag, size);
-    part[3..3 + size].copy_from_slice(bytes);
+    put_front(part, tag, bytes.len());
+    for (i, byte) in bytes.iter().enumerate() {
+        part[3 + i] = *byte;
+    }
 }
 
 // A field of one number.

@@ -6,7 +6,7 @@ use mathlib.Core.List.{List, [], ◌∷◌, ◌++◌, append_assoc, append-nil}
 use native.Mathlib.Numerals.{add-one}
 use native.Mathlib.Omega.{arith}
 use lib.ListN.{length, get_or, set, take, drop, length-set, length-append, take-append-drop}
-use lib.Seq.{length-take-le, append_snoc, drop-drop, sets-eq}
+use lib.Seq.{length-take-le, take-suc, append_snoc, drop-drop, sets-eq}
 use Rattle.std.specs.Int.{to_be_bytes, w16}
 use Rattle.model.specs.Lists.{gathered}
 use Rattle.model.specs.Lent.{fronted}
@@ -73,6 +73,16 @@ put_end tag size part {bytes} p e n =
     p.is ∙ ap (λ (s : List ℕ). fronted (take 3 s ++ bytes) s) e
     ∙ ap (λ (s : List ℕ). (tag ∷ big size) ++ (bytes ++ s)) (drop-drop (length bytes) 3 part ∙ ap (λ (i : ℕ). drop i part) k)
     ∙ ap (λ (i : ℕ). fronted ((tag ∷ big i) ++ bytes) part) (sym n)
+
+-- Bytes as they come -------------------------------------------------------------------------------------------------------------
+
+-- the next of these bytes
+pub byte_next : (bytes : List ℕ) (i : ℕ) {l₀ l : List ℕ} (place : ℕ) {v : ℕ} → Putting (take i bytes) l₀ l → v ≡ get_or bytes i 0 → i < length bytes
+    → place ≡ 3 + i → place < length l₀
+    → Putting (take (i + 1) bytes) l₀ (set l place v)
+byte_next bytes i place {v} p e some q room =
+    put_next place v p (omega (arith, q, length-take-le i bytes (omega arith))) room
+    (ap (λ (b : ℕ). take i bytes ++ (b ∷ [])) e ∙ sym (take-suc bytes i 0 some) ∙ ap (λ (k : ℕ). take k bytes) (sym (add-one i)))
 
 -- Learned values ------------------------------------------------------------------------------------------------------------------
 
