@@ -1,12 +1,12 @@
 -- `drive::tell` meets its contract: before each turn the drive is under way, and there is room (`DriveLoop`). Assumes nothing.
-use Rattle.std.proofs.Common.{ℕ, length, arith, ap, ◌∙◌}
+use Rattle.std.proofs.Common.{ℕ, length, arith, refl, ap, ◌∙◌}
 use lib.ListN.{length-replicate}
 use Rattle.model.specs.Plot.{max_cells}
 use Rattle.queue.specs.Queue.{heap_room}
 use Rattle.search.proofs.WorkspaceRoom.{room_long}
 use Rattle.printing.proofs.lines.LineShort.{line_kept}
 use Rattle.turn.proofs.DriveUnderWay.{going_first, going_planable, going_room}
-use Rattle.drive.proofs.DriveLoop.{waiting_room, going_again, less_to_do}
+use Rattle.drive.proofs.DriveLoop.{waiting_room, going_again, less_to_say}
 use Rattle.drive.proofs.tell.Goals as goal
 
 pub loop-init : goal.loop-init
@@ -23,7 +23,8 @@ pub turn-line-requires-clause-planable : goal.turn-line-requires-clause-planable
 turn-line-requires-clause-planable g c = going_planable _ _ _ _ c.loop.invariant.under_way c.loop.invariant.room
 
 pub loop-smaller : goal.loop-smaller
-loop-smaller g c = less_to_do c.loop.invariant.under_way c.turn-line.ensures.line c.is_last.ensures c.if-is_last.false
+loop-smaller g c =
+    let said = less_to_say c.loop.invariant.under_way c.turn-line.ensures.line c.is_last.ensures refl in rw c.if-is_last.false at said
 
 pub loop-preserved : goal.loop-preserved
 loop-preserved g c =

@@ -1,12 +1,12 @@
--- Before each turn the drive is under way, and there is room to plan and to write a line. What is left to do falls.
-use Rattle.std.proofs.Common.{◌≡◌, ◌+◌, ◌≤◌, length}
+-- Before each turn the drive is under way, and there is room to plan and to write a line. What is left to say falls: there is more of it as
+-- long as the drive goes on, and it goes on at the head of the loop.
+use Rattle.std.proofs.Common.{◌≡◌, ◌+◌, ◌≤◌, length, true}
 use Rattle.model.specs.Head.{cells_of}
 use Rattle.search.specs.LentLists.{HasRoom}
 use Rattle.printing.specs.Lines.{longest_line}
 use Rattle.turn.specs.Held.{drive_of}
-use Rattle.turn.proofs.EveryDriveEnds.{left_to_do}
 use Rattle.turn.proofs.DriveUnderWay.{UnderWay}
-use Rattle.drive.proofs.DriveLoop.{waiting_room}
+use Rattle.drive.proofs.DriveLoop.{waiting_room, to_say}
 use Rattle.drive.proofs.tell.Given as goal
 
 abbrev pub invariant-loop : goal.invariant-loop
@@ -18,4 +18,4 @@ invariant-loop g l = record {
 }
 
 abbrev pub decreases-loop : goal.decreases-loop
-decreases-loop g l = left_to_do l.truth (drive_of l.drive)
+decreases-loop g l = to_say true l.truth (drive_of l.drive)
