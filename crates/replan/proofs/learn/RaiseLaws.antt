@@ -6,8 +6,8 @@ use mathlib.Core.List.{List}
 use native.Mathlib.Decide.{ℕ_discrete, dec_lt}
 use native.Mathlib.Numerals.{add-one}
 use native.Mathlib.Omega.{arith}
-use lib.ListN.{length, get_or, set, length-set}
-use lib.Seq.{get_or-set_same, get_or-set_other, ext_get_or}
+use lib.ListN.{length, get_or, set, take, drop, length-set}
+use lib.Seq.{get_or-set_same, get_or-set_other, ext_get_or, take_all}
 use Rattle.model.specs.Lists.{filled}
 use Rattle.model.specs.Plan.{lesson}
 use Rattle.model.proofs.Lists.Filled.{length_filled, filled_above, filled_at}
@@ -79,3 +79,13 @@ raise_end {steps} {cost} {list} {k} {l₀} {l} {n} {mark} {count} r a e room =
     at x (yes i) = on x i (ℕ_discrete (get_or mark x 0) 2) ∙ sym (filled_at n _ l₀ room x i)
     at x (no o) =
         raised_other steps cost list l₀ count x (λ j b q. o (rw q at (a.inside j b))) ∙ sym (filled_above n _ l₀ x 0 (omega arith))
+
+-- a part of a list that is all of it
+pub whole : (a k : ℕ) (list : List ℕ) → a ≡ 0 → k ≡ length list → take k (drop a list) ≡ list
+whole zero k list z e = take_all k list (omega (arith, e))
+whole (suc a) k list z e = absurd (omega (arith, z))
+
+-- along a list that is the whole one, by whatever name
+pub raise_whole : {steps : ℕ} {cost part list : List ℕ} {k : ℕ} {l₀ l : List ℕ} {n : ℕ} {mark : List ℕ} {count : ℕ}
+    → Raised steps cost part k l₀ l → Listed n mark count list → part ≡ list → k ≡ count → n ≤ length l₀ → l ≡ filled n (lesson steps l₀ mark cost) l₀
+raise_whole {part = part} {list = list} r a p e room = raise_end r (rw (sym p) at a) e room
