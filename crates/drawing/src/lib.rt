@@ -15,6 +15,13 @@ use crate::text::is_text;
 use grid::plot::Plot;
 use model::Head;
 
+// (Std's, by a name of its own, which has the drawing's definition.)
+fn is_digit(byte: u8) -> bool
+    ensures { result ≡ is_digit byte }
+{
+    byte.is_ascii_digit()
+}
+
 // One digit more.
 fn grown(value: usize, byte: u8) -> usize
     requires { (is_digit byte ≡ true) × (value < 100000) }
@@ -35,7 +42,7 @@ fn number(bytes: &[u8]) -> (usize, &[u8])
     let mut value = 0;
     let mut rest = bytes;
     while let Some((&byte, behind)) = rest.split_first() {
-        if !byte.is_ascii_digit() {
+        if !is_digit(byte) {
             return (value, behind);
         }
         value = grown(value, byte);

@@ -3,18 +3,18 @@ use Rattle.std.proofs.Common.{sym, ◌∙◌}
 use Rattle.drawing.proofs.NumberRead.{digit_value, digit_rest, other_value, other_rest, none_value, none_rest}
 use Rattle.drawing.proofs.number.Goals as goal
 
-pub returns-then-not-is_ascii_digit-clause-value : goal.returns-then-not-is_ascii_digit-clause-value
-returns-then-not-is_ascii_digit-clause-value c =
-    other_value c.in-Some.ensures.cases.0 _ (sym c.is_ascii_digit.ensures.value ∙ c.if-not-is_ascii_digit.true) ∙ c.loop-byte.invariant.value
+pub returns-then-not-is_digit-clause-value : goal.returns-then-not-is_digit-clause-value
+returns-then-not-is_digit-clause-value c =
+    other_value c.in-Some.ensures.cases.0 _ (sym c.is_digit.ensures ∙ c.if-not-is_digit.true) ∙ c.loop-byte.invariant.value
 
-pub returns-then-not-is_ascii_digit-clause-rest : goal.returns-then-not-is_ascii_digit-clause-rest
-returns-then-not-is_ascii_digit-clause-rest c =
-    other_rest c.in-Some.ensures.cases.0 (sym c.is_ascii_digit.ensures.value ∙ c.if-not-is_ascii_digit.true) ∙ c.loop-byte.invariant.rest
+pub returns-then-not-is_digit-clause-rest : goal.returns-then-not-is_digit-clause-rest
+returns-then-not-is_digit-clause-rest c =
+    other_rest c.in-Some.ensures.cases.0 (sym c.is_digit.ensures ∙ c.if-not-is_digit.true) ∙ c.loop-byte.invariant.rest
 
 pub loop-byte-preserved : goal.loop-byte-preserved
 loop-byte-preserved c =
     let first = c.in-Some.ensures.cases.0 in
-    let digit = sym c.is_ascii_digit.ensures.value ∙ c.if-not-is_ascii_digit.false in record {
+    let digit = sym c.is_digit.ensures ∙ c.if-not-is_digit.false in record {
       value = rw c.grown-value.ensures.0 (digit_value first _ digit ∙ c.loop-byte.invariant.value);
       rest = digit_rest first digit ∙ c.loop-byte.invariant.rest;
       small = c.grown-value.ensures.1;
