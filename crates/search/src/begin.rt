@@ -1,6 +1,7 @@
 // How a search begins: every cell is unseen but the cart's own, which waits alone.
-ghost use Rattle.std.specs.Prelude.{◌≡◌};
-ghost use Rattle.model.specs.Search.{begun};
+ghost use Rattle.std.specs.Prelude.{◌≡◌, ◌≤◌, length};
+ghost use Rattle.model.specs.Lists.{filled, each};
+ghost use Rattle.model.specs.Search.{begun, unseen_cost};
 ghost use Rattle.queue.specs.Same.{SameQueue};
 ghost use Rattle.search.specs.LentLists.{scratch_of, SameScratch};
 ghost use Rattle.search.specs.Agreeing.{Became};
@@ -9,9 +10,20 @@ ghost use Rattle.search.specs.Begin.{CanBegin};
 use crate::lent::{Mark, Scratch};
 use queue::{Queue, key_of};
 
+// The cost of an unseen cell, which is the largest (C reads it), in the first n entries. (A loop, which a slip can make leave entries out,
+// and the proof refuses that. A `fill` leaves none out, whatever the slip.)
+fn unsee(cost: &mut [u16], n: usize)
+    requires { n ≤ length cost.old }
+    ensures { cost.new ≡ filled n (each unseen_cost) cost.old }
+{
+    for c in 0..n {
+        cost[c] = u16::MAX;
+    }
+}
+
 // Scratch as a search begins, and a queue of the cart's cell. (Each list goes by a name of its own: where a part of it is lent straight
-// out of the struct, as `scratch.mark[..n]`, the check forgets what the list holds. An unseen cell has the largest cost, and trail 0 is none:
-// C reads them. Learned is read and the others are written, here and in `expand`: a struct around the three would owe that they agree.)
+// out of the struct, as `scratch.mark[..n]`, the check forgets what the list holds. Trail 0 is none: C reads it. Learned is read and the
+// others are written, here and in `expand`: a struct around the three would owe that they agree.)
 pub fn begin(cell: usize, learned: &[u16], scratch: &mut Scratch, queue: &mut Queue)
     requires { CanBegin queue.old.cells cell learned.now (scratch_of scratch.old) queue.old.heap.now queue.old.place.now }
     ensures begun { Became learned.now (begun queue.old.cells cell (scratch_of scratch.old)) scratch.new queue.new }
@@ -23,7 +35,7 @@ pub fn begin(cell: usize, learned: &[u16], scratch: &mut Scratch, queue: &mut Qu
     let cost = &mut *scratch.cost;
     let trail = &mut *scratch.trail;
     mark[..n].fill(Mark::Unseen as u8);
-    cost[..n].fill(u16::MAX);
+    unsee(cost, n);
     trail[..n].fill(0);
     mark[cell] = Mark::Waiting as u8;
     cost[cell] = 0;

@@ -2,7 +2,7 @@
 -- Assumes nothing.
 use mathlib.Core.Path.{◌≡◌, sym, ap, ◌∙◌}
 use mathlib.Core.List.{List, ◌++◌}
-use Prim.Native.Nat.{ℕ, zero, suc, ◌<◌, ◌≤◌}
+use Prim.Native.Nat.{ℕ, zero, suc, ◌+◌, ◌<◌, ◌≤◌}
 use native.Mathlib.Omega.{arith}
 use lib.ListN.{get_or, set, length, take, drop, replicate}
 use lib.Seq.{get_or-set_same, set-get_or}
@@ -11,6 +11,7 @@ use Rattle.model.specs.Lists.{filled, each}
 use Rattle.model.specs.Lent.{Scratch, scratch_with}
 use Rattle.model.specs.Search.{unseen_cost, begun}
 use Rattle.model.proofs.Lists.Filled.{length_filled, filled_at, filled_again, filled_over, part_filled}
+use Rattle.model.proofs.Lists.FillLoop.{Filled, fill_next}
 use Rattle.queue.specs.Queue.{key_of, Lowered}
 use Rattle.queue.proofs.Gaps.{room_heap}
 use Rattle.search.specs.Waiting.{Queued, Did}
@@ -73,6 +74,11 @@ module _ {n cell : ℕ} {l : List ℕ} {s : Scratch} {h q : List ℕ} (a : CanBe
         kept =
             let z : get_or t cell 0 ≡ 0 = rw et (filled_at n (each 0) s.trail a.sized.trails cell a.inside) in
             ap (set t cell) (sym z) ∙ set-get_or t cell 0
+
+-- A loop's next entry, however its place is reckoned ---------------------------------------------------------------------------------------
+
+pub fill_at : {entry : ℕ → ℕ} {k : ℕ} {l₀ l : List ℕ} (i v : ℕ) → Filled entry k l₀ l → i ≡ k → v ≡ entry k → Filled entry (k + 1) l₀ (set l i v)
+fill_at {entry} {k} {l₀} {l} i v f z e = rw z (fill_next v f e)
 
 -- A list that std's fill has set below n -------------------------------------------------------------------------------------------------
 

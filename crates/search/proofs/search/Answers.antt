@@ -1,5 +1,5 @@
 -- `search::search` meets its contract. Assumes nothing.
-use Rattle.model.proofs.Lists.Filled.{part_filled}
+use Rattle.search.proofs.begin.BeginLaws.{filled_to, filled_mid}
 use Rattle.search.proofs.SearchCases.{can_begin, huntable, hunted}
 use borrow.Author.Rules.{rules}
 use Rattle.search.proofs.search.Goals as goal
@@ -12,7 +12,7 @@ hunt-requires-clause-huntable c =
     let kept = c.begin.ensures.same.1.cells in
     rw kept
     (huntable c.requires _ _ _ _ (rw (kept, c.begin.ensures.waiting) at c.begin.ensures.begun)
-    (part_filled _ _ _ c.requires.space.gones c.fill.ensures.after))
+    (search (rules, filled_to, filled_mid)))
 
 pub returns-clause-hunted : goal.returns-clause-hunted
 returns-clause-hunted c =

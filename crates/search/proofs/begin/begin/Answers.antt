@@ -9,5 +9,5 @@ returns-clause-begun c =
     let s = c.requires.sized in
     rw (c.push.ensures.same.cells, c.push.ensures.waiting)
     (cart_waits c.requires _ _ _ (search (rules, filled_to, filled_mid))
-    (search (rules, filled_to, filled_mid)) (search (rules, filled_to, filled_mid))
+    c.unsee.ensures (search (rules, filled_to, filled_mid))
     _ c.key_of-k.ensures _ _ c.push.ensures.keys)
