@@ -10,8 +10,8 @@ ghost use Rattle.search.specs.Begin.{CanBegin};
 use crate::lent::{Mark, Scratch};
 use queue::{Queue, key_of};
 
-// The cost of an unseen cell, which is the largest (C reads it), in the first n entries. (A loop, which a slip can make leave entries out,
-// and the proof refuses that. A `fill` leaves none out, whatever the slip.)
+// The cost of an unseen cell, which is the largest (C reads it), in the first n entries. (A loop and no `fill`, so that a body that leaves
+// entries out can be tried: `every_second_unseen`.)
 fn unsee(cost: &mut [u16], n: usize)
     requires { n ≤ length cost.old }
     ensures { cost.new ≡ filled n (each unseen_cost) cost.old }

@@ -10,6 +10,7 @@ use native.Mathlib.Numerals.{add-one}
 use native.Mathlib.Decide.{ℕ_discrete, dec_lt}
 use native.Mathlib.Omega.{arith}
 use lib.ListN.{length, get_or, set, take, drop, replicate, length-set}
+use borrow.Rule.Slice.PartMut.{mid_of, put_mid}
 use lib.Seq.{get_or-set_same, get_or-set_other, ext_get_or, length-take-le}
 use Rattle.model.specs.Lists.{every, tally, filled, each}
 use Rattle.model.proofs.Lists.Bools.{and_left, and_right, and_both}
@@ -159,3 +160,18 @@ part_length n l i = sym (length-take-le n l i)
 pub part_filled : (n v : ℕ) (l : List ℕ) {s : List ℕ} → n ≤ length l → (((y : ℕ) → y ≡ v → y ≡ v) → s ≡ replicate (length (take n l)) v)
     → s ++ drop n l ≡ filled n (each v) l
 part_filled n v l i e = ap (λ (m : List ℕ). m ++ drop n l) (rw (length-take-le n l i) at e (λ y k. k)) ∙ filled_each n v l i
+
+-- the same of its first m entries, where m is n
+pub filled_to : (n v m : ℕ) (l : List ℕ) {s : List ℕ} → m ≡ n → n ≤ length l → (((y : ℕ) → y ≡ v → y ≡ v) → s ≡ replicate (length (take m l)) v)
+    → s ++ drop m l ≡ filled n (each v) l
+filled_to n v m l {s} e i f = rw (sym e) (part_filled m v l (omega (arith, e, i)) f)
+
+-- and its k entries from a on, where these are the first n
+pub filled_mid : (n v a k : ℕ) (l : List ℕ) {s : List ℕ} → a ≡ 0 → k ≡ n → n ≤ length l
+    → (((y : ℕ) → y ≡ v → y ≡ v) → s ≡ replicate (length (mid_of a k l)) v) → put_mid a k l s ≡ filled n (each v) l
+filled_mid n v a k l {s} z e i f = go a z k e f
+  where
+    go : (a : ℕ) → a ≡ 0 → (k : ℕ) → k ≡ n → (((y : ℕ) → y ≡ v → y ≡ v) → s ≡ replicate (length (mid_of a k l)) v)
+        → put_mid a k l s ≡ filled n (each v) l
+    go zero z k e f = filled_to n v k l e i f
+    go (suc a) z k e f = absurd (omega (arith, z))

@@ -1,17 +1,15 @@
 -- A search begins: scratch that is unseen goes with an empty queue, and the cart's cell comes in. `begun` is idempotent.
 -- Assumes nothing.
 use mathlib.Core.Path.{◌≡◌, sym, ap, ◌∙◌}
-use mathlib.Core.List.{List, ◌++◌}
-use Prim.Native.Nat.{ℕ, zero, suc, ◌+◌, ◌<◌, ◌≤◌}
+use mathlib.Core.List.{List}
+use Prim.Native.Nat.{ℕ, ◌<◌, ◌≤◌}
 use native.Mathlib.Omega.{arith}
-use lib.ListN.{get_or, set, length, take, drop, replicate}
+use lib.ListN.{get_or, set, length}
 use lib.Seq.{get_or-set_same, set-get_or}
-use borrow.Rule.Slice.PartMut.{mid_of, put_mid}
 use Rattle.model.specs.Lists.{filled, each}
 use Rattle.model.specs.Lent.{Scratch, scratch_with}
 use Rattle.model.specs.Search.{unseen_cost, begun}
-use Rattle.model.proofs.Lists.Filled.{length_filled, filled_at, filled_again, filled_over, part_filled}
-use Rattle.model.proofs.Lists.FillLoop.{Filled, fill_next}
+use Rattle.model.proofs.Lists.Filled.{length_filled, filled_at, filled_again, filled_over}
 use Rattle.queue.specs.Queue.{key_of, Lowered}
 use Rattle.queue.proofs.Gaps.{room_heap}
 use Rattle.search.specs.Waiting.{Queued, Did}
@@ -74,25 +72,3 @@ module _ {n cell : ℕ} {l : List ℕ} {s : Scratch} {h q : List ℕ} (a : CanBe
         kept =
             let z : get_or t cell 0 ≡ 0 = rw et (filled_at n (each 0) s.trail a.sized.trails cell a.inside) in
             ap (set t cell) (sym z) ∙ set-get_or t cell 0
-
--- A loop's next entry, however its place is reckoned ---------------------------------------------------------------------------------------
-
-pub fill_at : {entry : ℕ → ℕ} {k : ℕ} {l₀ l : List ℕ} (i v : ℕ) → Filled entry k l₀ l → i ≡ k → v ≡ entry k → Filled entry (k + 1) l₀ (set l i v)
-fill_at {entry} {k} {l₀} {l} i v f z e = rw z (fill_next v f e)
-
--- A list that std's fill has set below n -------------------------------------------------------------------------------------------------
-
--- its first m entries, where m is n
-pub filled_to : (n v m : ℕ) (l : List ℕ) {s : List ℕ} → m ≡ n → n ≤ length l → (((y : ℕ) → y ≡ v → y ≡ v) → s ≡ replicate (length (take m l)) v)
-    → s ++ drop m l ≡ filled n (each v) l
-filled_to n v m l {s} e i f = rw (sym e) (part_filled m v l (omega (arith, e, i)) f)
-
--- and its k entries from a on, where these are the first n
-pub filled_mid : (n v a k : ℕ) (l : List ℕ) {s : List ℕ} → a ≡ 0 → k ≡ n → n ≤ length l
-    → (((y : ℕ) → y ≡ v → y ≡ v) → s ≡ replicate (length (mid_of a k l)) v) → put_mid a k l s ≡ filled n (each v) l
-filled_mid n v a k l {s} z e i f = go a z k e f
-  where
-    go : (a : ℕ) → a ≡ 0 → (k : ℕ) → k ≡ n → (((y : ℕ) → y ≡ v → y ≡ v) → s ≡ replicate (length (mid_of a k l)) v)
-        → put_mid a k l s ≡ filled n (each v) l
-    go zero z k e f = filled_to n v k l e i f
-    go (suc a) z k e f = absurd (omega (arith, z))

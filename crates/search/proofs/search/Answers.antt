@@ -1,5 +1,5 @@
 -- `search::search` meets its contract. Assumes nothing.
-use Rattle.search.proofs.begin.BeginLaws.{filled_to, filled_mid}
+use Rattle.model.proofs.Lists.Filled.{filled_to, filled_mid}
 use Rattle.search.proofs.SearchCases.{can_begin, huntable, hunted}
 use borrow.Author.Rules.{rules}
 use Rattle.search.proofs.search.Goals as goal

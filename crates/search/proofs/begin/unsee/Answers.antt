@@ -2,8 +2,7 @@
 -- Assumes nothing.
 use Rattle.model.specs.Lists.{each}
 use Rattle.model.specs.Search.{unseen_cost}
-use Rattle.model.proofs.Lists.FillLoop.{fill_begin}
-use Rattle.search.proofs.begin.BeginLaws.{fill_at}
+use Rattle.model.proofs.Lists.FillLoop.{fill_begin, fill_at}
 use mathlib.Core.Path.{refl}
 use native.Mathlib.Omega.{arith}
 use Rattle.search.proofs.begin.unsee.Goals as goal
