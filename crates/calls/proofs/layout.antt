@@ -1,2 +1,3 @@
--- The distances, row by row.
+-- The distances, row by row; and what is cleared.
 pub mod RowDistances
+pub mod Cleared

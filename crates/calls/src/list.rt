@@ -66,6 +66,7 @@ pub fn fill_route(
 }
 
 // Whether list is refused, and why.
+#[tactic(auto, using(crate::proofs::list::ListCounts::list_refused))]
 fn list_check(
     head: Head,
     ground: &[u8],
@@ -96,6 +97,7 @@ pub fn list_question(
 }
 
 // List with the front's length for an answer, or why it is refused.
+#[tactic(auto, using(crate::proofs::list::ListCounts::listed_none, crate::proofs::list::ListCounts::listed_filled))]
 pub fn list_cells(
     head: Head,
     ground: &[u8],

@@ -5,7 +5,8 @@ use Prim.Native.Nat.{ℕ}
 use mathlib.Core.Path.{◌≡◌, sym, ap, ◌∙◌}
 use mathlib.Core.List.{List}
 use lib.ListN.{length, take}
-use Rattle.model.specs.Lent.{Lent}
+use Rattle.model.specs.Lent.{Lent, fronted}
+use Rattle.model.specs.Route.{route}
 use Rattle.model.specs.Refusals.{acceptance}
 use Rattle.model.specs.Numbers.{reason_number}
 use Rattle.model.specs.Listing.{AfterList, list_check, listed, list_question}
@@ -14,7 +15,7 @@ use Rattle.model.specs.declared.Reason.{Reason}
 use Rattle.model.specs.Verdict.{Verdict}
 use Rattle.calls.specs.RouteWritten.{RouteFilled}
 use Rattle.calls.proofs.list.ListCases.{filled_back}
-use Rattle.calls.specs.Counted.{Counted}
+use Rattle.calls.specs.Counted.{Counted, front_of}
 
 module _ (head : Head) (p : Lent) (buffer : List ℕ) where
   -- data that are not accepted are not listed
@@ -41,6 +42,15 @@ module _ (head : Head) (p : Lent) (buffer : List ℕ) where
     count = rw (ok, listed) f.count;
     leaves = rw (ok, listed, filled_back f, f.is);
   }
+
+  -- what list leaves, in equations: `grind` reads these. v is the verdict
+  pub listed_none : {v : Verdict} {why : Reason} → v ≡ list_check head p buffer → v ≡ Err why → listed head p buffer ≡ front_of 0 buffer
+  listed_none e q = sym (count_none e q).leaves
+
+  pub listed_filled : {v : Verdict} {u : Unit} {k : ℕ} {l : List ℕ} → v ≡ list_check head p buffer → v ≡ Ok u → k ≡ length (route head p)
+      → l ≡ fronted (route head p) buffer
+      → (listed head p buffer ≡ front_of k l) × (k ≡ length (listed head p buffer).front)
+  listed_filled e q n is = let c = count_filled (sym e ∙ q) (record { count = n; is = is }) in (sym c.leaves, c.count)
 
 -- the front that was left, read back and counted
 module _ {head : Head} {p : Lent} {buffer l : List ℕ} {k : ℕ} (f : Counted head p buffer k l) where

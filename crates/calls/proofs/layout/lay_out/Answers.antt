@@ -1,5 +1,7 @@
--- `calls::layout::lay_out` meets its contract: each list is filled, and together they are a fresh layout (`AcceptedCases`). Assumes nothing.
-use Rattle.model.proofs.Lists.Filled.{part_filled}
+-- `calls::layout::lay_out` meets its contract: each list is filled, whichever way its first entries are lent (`Cleared`), and together they are a
+-- fresh layout (`AcceptedCases`). Assumes nothing.
+use Rattle.std.proofs.Common.{rules}
+use Rattle.calls.proofs.layout.Cleared.{cleared_to, cleared_mid}
 use Rattle.calls.proofs.AcceptedCases.{layout_done}
 use Rattle.model.proofs.Calls.LayoutLaws.{layout_passed}
 use Rattle.calls.proofs.layout.lay_out.Goals as goal
@@ -9,6 +11,6 @@ returns c =
     let room = (layout_passed _ _ _ _ _ c.requires).1 in
     let n = c.new-plot.ensures.cells in
     layout_done _ _ _ _ _ _ _ _ _ _ c.requires n c.new.ensures
-    (part_filled _ _ _ (rw n room.grounds) c.fill.ensures.after)
+    (search (rules, cleared_to, cleared_mid))
     (rw c.new-plot.ensures.sides.0 at c.fill_rows.ensures)
-    (part_filled _ _ _ (rw n room.links) c.fill-2.ensures.after)
+    (search (rules, cleared_to, cleared_mid))
