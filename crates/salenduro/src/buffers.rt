@@ -7,7 +7,9 @@ ghost use Rattle.salenduro.specs.Buffers.{after_host, after_host_plan, after_hos
 ghost use Rattle.salenduro.specs.Buffers.{listed_host, question_host, saved_host, loaded_host};
 
 use crate::heads::{CELL_AT, COUNT_AT, HEAD_SIZE, head_in, set_entry, set_head};
-use crate::numbers::{changed_answer, given_number, move_answer, plan_answer, refusal};
+use crate::numbers::{
+    changed_answer, given_number, move_answer, plan_answer, refusal, save_answer,
+};
 use calls::advance::advance;
 use calls::layout::layout;
 use calls::list::{list_cells, list_question};
@@ -118,6 +120,7 @@ pub extern "C" fn salenduro_buffers_question(
 }
 
 // The number of cells that were written.
+#[tactic(auto, using(crate::proofs::buffers::ListCases::list_cases))]
 #[unsafe(no_mangle)]
 pub extern "C" fn salenduro_buffers_list(
     head: &[usize],
@@ -149,7 +152,7 @@ pub extern "C" fn salenduro_buffers_save(
     if head.len() < HEAD_SIZE {
         return refusal(Reason::Short);
     }
-    given_number(save(head_in(head), ground, learned, link, bytes).length)
+    save_answer(save(head_in(head), ground, learned, link, bytes).length)
 }
 
 #[unsafe(no_mangle)]

@@ -49,3 +49,10 @@ pub fn move_answer(cell: usize, step: Result<Step, Reason>) -> u32
 {
     given_number(step.map(|_| cell))
 }
+
+pub fn save_answer(length: Result<usize, Reason>) -> u32
+    requires { given_number length < 4294967296 }
+    ensures { result ≡ given_number length }
+{
+    given_number(length)
+}

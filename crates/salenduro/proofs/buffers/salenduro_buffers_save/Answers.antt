@@ -9,10 +9,10 @@ pub returns-then-head-lt-HEAD_SIZE : goal.returns-then-head-lt-HEAD_SIZE
 unfolding saved_host
 returns-then-head-lt-HEAD_SIZE c = fill_short c.args.head.now _ c.refusal.ensures (omega arith) _
 
-pub given_number-requires : goal.given_number-requires
-given_number-requires c = save_fits _ _ _ c.save.ensures
+pub save_answer-requires : goal.save_answer-requires
+save_answer-requires c = save_fits _ _ _ c.save.ensures
 
 pub returns : goal.returns
 returns c =
     save_called _ _ c.if-head-lt-HEAD_SIZE.false c.head_in.ensures _ c.save.ensures
-    c.given_number.ensures
+    c.save_answer.ensures
