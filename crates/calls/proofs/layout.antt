@@ -1,3 +1,2 @@
--- The distances, row by row; and what is cleared.
+-- The distances, row by row.
 pub mod RowDistances
-pub mod Cleared
