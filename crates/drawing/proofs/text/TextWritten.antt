@@ -5,22 +5,24 @@ use Rattle.std.specs.List.{between}
 use Rattle.std.specs.Cmp.Lexicographic.{pointwise}
 use Rattle.std.proofs.lemmas.List.Edits.{length-between, get_or-between}
 use Prim.Native.Nat.{ℕ, ◌+◌, ◌*◌, ◌≤◌, ◌<◌}
-use mathlib.Core.Path.{◌≡◌, refl, sym, ap, ◌∙◌}
-use mathlib.Core.Bool.{Bool, false, ◌&&◌}
+use mathlib.Core.Path.{◌≡◌, refl, sym, ap, ap₂, ◌∙◌}
+use mathlib.Core.Bool.{Bool, true, false, ◌&&◌}
 use mathlib.Core.List.{List, [], ◌∷◌, ◌++◌}
 use native.Mathlib.Numerals.{add-one}
 use native.Mathlib.Nat.{mul-one, mul_comm, mul-le-mul, suc-mul, le_refl}
 use native.Mathlib.Omega.{arith}
-use borrow.Author.Tests.{ltb-false}
+use borrow.Author.Tests.{ltb-false, eq-eqb}
 use lib.Dec.{eqb}
-use lib.ListN.{length, get_or, replicate, length-append, length-replicate}
+use lib.Seq.{take_all}
+use lib.ListN.{length, get_or, take, replicate, length-append, length-replicate}
 use Rattle.model.specs.Lists.{gathered}
 use Rattle.model.specs.Plot.{max_side, bad_side, bad_sides}
 use Rattle.model.specs.Head.{cells_of}
 use Rattle.model.specs.declared.Head.{Head}
 use Rattle.model.specs.Record.{same}
-use Rattle.model.proofs.Lists.Bools.{or_false}
+use Rattle.model.proofs.Lists.Bools.{or_false, and_false}
 use Rattle.model.proofs.Lists.Gathered.{length_gathered}
+use Rattle.model.proofs.Record.RecordLaws.{same_true}
 use Rattle.printing.specs.Text.{line_feed, space, number, Put}
 use Rattle.printing.proofs.Appended.{put_nothing, put_then, put_as, put_long, number_few, number_kept}
 use Rattle.drawing.specs.Drawing.{character, cell_text, row_text, text}
@@ -188,3 +190,22 @@ compared [] [] = refl
 compared [] (y ∷ ys) = refl
 compared (x ∷ xs) [] = refl
 compared (x ∷ xs) (y ∷ ys) = ap (λ (b : Bool). eqb x y && b) (compared xs ys)
+
+-- and where each is a text by another name
+pub compared_as : (s : List ℕ) {a b t : List ℕ} {r : Bool} → r ≡ pointwise nat_eq a b → a ≡ s → b ≡ t → r ≡ same s t
+compared_as s {a} {b} r p q = r ∙ compared a b ∙ ap₂ same p q
+
+-- where their lengths are compared too, which says no more
+pub compared_long : {s t : List ℕ} {n : ℕ} → n ≡ 0 + length t → {a b : List ℕ} {r : Bool} → r ≡ pointwise nat_eq a b → a ≡ s → b ≡ t
+    → (eqb (length s) n && r) ≡ same s t
+compared_long {s} {t} {n} long {a} {b} {r} e p q =
+    let n_is : n ≡ length t = omega (arith, long) in
+    rw (compared_as s e p q, n_is) (go (same s t) refl)
+  where
+    go : (r : Bool) → same s t ≡ r → (eqb (length s) (length t) && r) ≡ r
+    go true e = rw (same_true s t e, eq-eqb (length t) (length t) refl)
+    go false e = and_false (eqb (length s) (length t))
+
+-- the front of a text that is all of it
+pub front_is : {text l : List ℕ} → l ≡ text → (k : ℕ) → length text ≤ k → take k l ≡ text
+front_is {text} {l} e k i = rw e (take_all k text i)

@@ -1,11 +1,9 @@
 -- `drawing::text::is_text` meets its contract: the numbers are written, behind them the rows, and the bytes are compared with that
--- (`TextWritten`). Assumes nothing.
+-- (`TextWritten`). A part of either that is all of it does as well, and so does a test of the lengths beside. Assumes nothing.
 use Rattle.std.proofs.Common.{rules, ◌∙◌}
-use mathlib.Core.Path.{ap₂}
 use lib.Seq.{take_all}
-use Rattle.model.specs.Record.{same}
 use Rattle.printing.proofs.Appended.{put_front}
-use Rattle.drawing.proofs.text.TextWritten.{roomy, height_room, start_room, goal_room, rows_room, truth_room, text_done, compared}
+use Rattle.drawing.proofs.text.TextWritten.{roomy, height_room, start_room, goal_room, rows_room, truth_room, text_done, compared_as, compared_long, front_is}
 use Rattle.drawing.proofs.text.is_text.Goals as goal
 
 pub put_number-requires-2 : goal.put_number-requires-2
@@ -29,4 +27,5 @@ pub returns : goal.returns
 returns c =
     let done = text_done _ _ (roomy c.args.head c.requires.0 c.requires.1) c.put_number.ensures.text c.put_number-2.ensures.text c.put_number-3.ensures.text
     c.put_number-4.ensures.text c.put_rows.ensures.text in
-    c.eq.ensures ∙ compared _ _ ∙ ap₂ same (search (rules, take_all)) (c.text.ensures ∙ put_front done)
+    let all = c.text.ensures ∙ put_front done in
+    search (rules, take_all, all, front_is all, compared_as c.args.bytes.now, compared_long {s = c.args.bytes.now} done.behind) depth 4
