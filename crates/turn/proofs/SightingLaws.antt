@@ -106,25 +106,32 @@ module _ (head : Head) (truth ground : List ℕ) where
       rw (sighting, m 0 (omega arith), m 1 (omega arith), m 2 (omega arith), m 3 (omega arith))
       (off_plot (cells_of head) (cells_of head) (omega arith))
 
-  -- What `find_map` over 1 to 4 says: each call of the closure, at d, leaves it as it was and answers what is unknown in direction d.
+  -- a direction, however it is reckoned
+  pub reckoned : {d k : ℕ} {a : Option ℕ} → a ≡ cell_on (cells_of head) (unknown_ahead head truth ground k) → k ≡ d
+      → a ≡ cell_on (cells_of head) (unknown_ahead head truth ground d)
+  reckoned e q = rw q at e
+
+  -- What `find_map` over 1 to 4 says: each call of the closure leaves it as it was, and at d answers what is unknown in direction d.
   module _ {S F : Type 0} {steps : S → Option ℕ → S → Type 0} {g : Mut F (ℕ × Unit {0}) (Option ℕ)} {f : F} (p : Run steps) (up : ItemsCountUp p 1 5)
-      (call : (d : ℕ) (a : Option ℕ) (f' : F) → Called g f (d, tt) a f'
-      → (f' ≡ f) × (a ≡ cell_on (cells_of head) (unknown_ahead head truth ground d))) where
+      (keep : (d : ℕ) (a : Option ℕ) (f' : F) → Called g f (d, tt) a f' → f' ≡ f)
+      (call : (d : ℕ) → 1 ≤ d → d ≤ 4 → (a : Option ℕ) (f' : F) → Called g f (d, tt) a f'
+      → a ≡ cell_on (cells_of head) (unknown_ahead head truth ground d)) where
     keeps : CallKeepsClosure g f
-    keeps x a f' h = (call x.0 a f' h).0
+    keeps x a f' h = keep x.0 a f' h
 
     at : (k : ℕ) → k < p.len → p.at k ≡ Some (1 + k)
     at k i = sym (option_map_id (p.at k)) ∙ up.3 k i
 
-    passed : (k : ℕ) → Called g f (1 + k, tt) None f → unknown head truth ground (1 + k) ≡ false
-    passed k h = missed (1 + k) (call (1 + k) None f h).1
+    passed : (k : ℕ) → k < 4 → Called g f (1 + k, tt) None f → unknown head truth ground (1 + k) ≡ false
+    passed k i h = missed (1 + k) (call (1 + k) (omega arith) (omega arith) None f h)
 
     pub finds_first : (r : Option ℕ)
         → MatchOption r (IsTrue p.whole × AllItemsGive p g f None) (λ c. (i : ℕ) × (i < p.len) × (p.len ≡ i + 1) × IsFirstToGive p g f (Some c) None i)
         → r ≡ cell_on (cells_of head) (sighting head truth ground)
-    finds_first None m = none_is (λ k l. passed k (rw (at k (omega (arith, up.1 m.0))) at (m.1 keeps k)))
+    finds_first None m = none_is (λ k l. passed k l (rw (at k (omega (arith, up.1 m.0))) at (m.1 keeps k)))
     finds_first (Some c) m =
         let h = m.3 keeps in
-        let e = (call (1 + m.0) (Some c) f (rw (at m.0 m.1) at h.0)).1 in
+        let e = call (1 + m.0) (omega arith) (omega (arith, up.0, m.1)) (Some c) f (rw (at m.0 m.1) at h.0) in
         e ∙ ap (cell_on (cells_of head))
-        (first_is m.0 (omega (arith, up.0, m.1)) (λ k l. passed k (rw (at k (omega (arith, m.1))) at (h.1 k l))) (found (1 + m.0) e))
+        (first_is m.0 (omega (arith, up.0, m.1)) (λ k l. passed k (omega (arith, up.0, m.1)) (rw (at k (omega (arith, m.1))) at (h.1 k l)))
+        (found (1 + m.0) e))
