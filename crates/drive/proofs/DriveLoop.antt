@@ -7,6 +7,8 @@ use native.Mathlib.Omega.{arith}
 use Rattle.printing.specs.Lines.{is_last}
 use Rattle.printing.specs.declared.lines.Line.{Line}
 use Rattle.turn.specs.Turn.{Drive, Said, says, turn}
+use Rattle.turn.specs.Held.{SameDrive}
+use Rattle.turn.specs.declared.Drive.{Drive as Lists}
 use Rattle.turn.proofs.EveryDriveEnds.{left_to_do, turn_falls}
 use Rattle.turn.proofs.DriveUnderWay.{UnderWay, going_on}
 
@@ -40,3 +42,34 @@ module _ {truth : List ℕ} {k next : Drive} {line : Line} (g : UnderWay truth k
       go : (b : Bool) → last ≡ b → cond (not b) (left_to_do truth next + 1) 0 < left_to_do truth k + 1
       go true f = omega arith
       go false f = omega (arith, less_to_do f)
+
+-- What the drive is lent stays the same lists, from turn to turn ------------------------------------------------------------------------
+
+pub same_here : (k : Lists) → SameDrive k k
+same_here k = record {
+  ground = refl;
+  learned = refl;
+  link = refl;
+  ground_long = refl;
+  learned_long = refl;
+  link_long = refl;
+  scratch = record { mark = refl; cost = refl; trail = refl; mark_long = refl; cost_long = refl; trail_long = refl };
+}
+
+pub same_still : {k m n : Lists} → SameDrive k m → SameDrive m n → SameDrive k n
+same_still a b = record {
+  ground = b.ground ∙ a.ground;
+  learned = b.learned ∙ a.learned;
+  link = b.link ∙ a.link;
+  ground_long = b.ground_long ∙ a.ground_long;
+  learned_long = b.learned_long ∙ a.learned_long;
+  link_long = b.link_long ∙ a.link_long;
+  scratch = record {
+    mark = b.scratch.mark ∙ a.scratch.mark;
+    cost = b.scratch.cost ∙ a.scratch.cost;
+    trail = b.scratch.trail ∙ a.scratch.trail;
+    mark_long = b.scratch.mark_long ∙ a.scratch.mark_long;
+    cost_long = b.scratch.cost_long ∙ a.scratch.cost_long;
+    trail_long = b.scratch.trail_long ∙ a.scratch.trail_long;
+  };
+}

@@ -8,7 +8,7 @@ ghost use Rattle.model.specs.Plan.{plan_check};
 ghost use Rattle.search.specs.LentLists.{scratch_of};
 ghost use Rattle.printing.specs.Lines.{longest_line};
 ghost use Rattle.printing.specs.Pages.{SamePage};
-ghost use Rattle.turn.specs.Held.{lent_of};
+ghost use Rattle.turn.specs.Held.{lent_of, SameDrive};
 
 use calls::layout::layout;
 use checks::plan_check;
@@ -48,6 +48,7 @@ fn tell(rt: &impl Print, drive: &mut Drive<'_>, truth: &[u8]) -> io::Result<()>
     requires accepted { plan_check drive.old.head (lent_of drive.old) (scratch_of drive.old.scratch) ≡ Ok tt }
     requires truth { max_cells ≤ length truth.now }
     requires moves { drive.old.moves ≡ 0 }
+    ensures same { SameDrive drive.old drive.new }
 {
     let mut heap = [0u64; queue::ROOM];
     let mut place = [0u16; Head::MAX_CELLS];

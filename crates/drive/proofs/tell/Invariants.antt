@@ -4,13 +4,14 @@ use Rattle.std.proofs.Common.{◌≡◌, ◌+◌, ◌≤◌, length, true}
 use Rattle.model.specs.Head.{cells_of}
 use Rattle.search.specs.LentLists.{HasRoom}
 use Rattle.printing.specs.Lines.{longest_line}
-use Rattle.turn.specs.Held.{drive_of}
+use Rattle.turn.specs.Held.{drive_of, SameDrive}
 use Rattle.turn.proofs.DriveUnderWay.{UnderWay}
 use Rattle.drive.proofs.DriveLoop.{waiting_room, to_say}
 use Rattle.drive.proofs.tell.Given as goal
 
 abbrev pub invariant-loop : goal.invariant-loop
 invariant-loop g l = record {
+  same : SameDrive l.initial.drive l.drive;
   under_way : UnderWay l.truth (drive_of l.drive);
   room : HasRoom (cells_of l.drive.head) l.space;
   long : length l.page.bytes.now ≡ waiting_room;

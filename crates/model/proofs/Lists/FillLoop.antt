@@ -20,6 +20,9 @@ pub fill_next : {entry : ℕ → ℕ} {k : ℕ} {l₀ l : List ℕ} (v : ℕ) �
 unfolding filled
 fill_next {entry} {k} {l₀} {l} v f e = record { is = rw (add-one k, f.is, e); long = length-set l k v ∙ f.long }
 
--- the same, however the place of the entry is reckoned
+pub fill_end : {entry : ℕ → ℕ} {k : ℕ} {l₀ l : List ℕ} (n : ℕ) → Filled entry k l₀ l → k ≡ n → l ≡ filled n entry l₀
+fill_end n f e = rw e at f.is
+
+-- fill_next, however the place of the entry is reckoned
 pub fill_at : {entry : ℕ → ℕ} {k : ℕ} {l₀ l : List ℕ} (i v : ℕ) → Filled entry k l₀ l → i ≡ k → v ≡ entry k → Filled entry (k + 1) l₀ (set l i v)
 fill_at {entry} {k} {l₀} {l} i v f z e = rw z (fill_next v f e)

@@ -77,10 +77,10 @@ put_end tag size part {bytes} p e n =
 -- Bytes as they come -------------------------------------------------------------------------------------------------------------
 
 -- the next of these bytes
-pub byte_next : (bytes : List ℕ) (i : ℕ) {l₀ l : List ℕ} (place : ℕ) {v : ℕ} → Putting (take i bytes) l₀ l → v ≡ get_or bytes i 0 → i < length bytes
+pub link_next : (bytes : List ℕ) (i : ℕ) {l₀ l : List ℕ} (place : ℕ) {v : ℕ} → Putting (take i bytes) l₀ l → v ≡ get_or bytes i 0 → i < length bytes
     → place ≡ 3 + i → place < length l₀
     → Putting (take (i + 1) bytes) l₀ (set l place v)
-byte_next bytes i place {v} p e some q room =
+link_next bytes i place {v} p e some q room =
     put_next place v p (omega (arith, q, length-take-le i bytes (omega arith))) room
     (ap (λ (b : ℕ). take i bytes ++ (b ∷ [])) e ∙ sym (take-suc bytes i 0 some) ∙ ap (λ (k : ℕ). take k bytes) (sym (add-one i)))
 
