@@ -1,5 +1,6 @@
 -- List over a host's buffers in equations, which `grind` reads, so that its body is judged with no file of answers: by what the call says of its
--- list, or by what the question and the core say. Assumes nothing.
+-- list, or by what the question and the core say. (No code goes by the second today; a body that asks first is judged by it, as the wrong program
+-- `buffers_list_not_asked`.) Assumes nothing.
 use Rattle.std.specs.Prelude.{Result, Ok, Err}
 use mathlib.Core.Path.{◌≡◌, refl, sym, ap, ◌∙◌}
 use mathlib.Core.List.{List}
